@@ -1,0 +1,21 @@
+-- What a network may do when its changed inputs arrive, and its nodes follow, in any order. Assumes nothing.
+use Prim.Native.Nat.{ℕ, _<_}
+use mathlib.Core.Path.{_≡_}
+use mathlib.Core.Bool.{Bool, true, false}
+use mathlib.Core.Logic.{_⊎_}
+use mathlib.Core.List.{List}
+use lib.ListN.{length}
+use Rattle.model.specs.Places.{at}
+
+-- n nodes, of which `input` says which are inputs; f, one step of all nodes; `changed` marks the inputs that are to take their state of `to`
+module _ (n : ℕ) (input changed : ℕ → Bool) (f : List ℕ → List ℕ) (to : List ℕ) where
+  -- what a node may do next: nothing, arrive at its new state if it is a changed input, take its step's state if it is no input
+  pub data May (s : List ℕ) (v x : ℕ) : Type 0 where
+    stays : x ≡ at s v → May s v x
+    arrives : changed v ≡ true → x ≡ at to v → May s v x
+    follows : v < n → input v ≡ false → x ≡ at (f s) v → May s v x
+
+  -- any nodes move at once: one by one is the case in which all others stay
+  pub data Reach (from : List ℕ) : List ℕ → Type 0 where
+    start : Reach from from
+    move : {s : List ℕ} → Reach from s → (t : List ℕ) → length t ≡ length s → ((v : ℕ) → May s v (at t v)) → Reach from t

@@ -1,0 +1,158 @@
+-- What the bench set leaves out, from the definitions, under one claim: each stand of a transistor, both sides of each bound, a run that ends
+-- exactly at its limit, the default limit, the work area after each kind of answer. Assumes nothing.
+use Prim.Native.Nat.{ℕ, zero, suc}
+use mathlib.Core.Path.{_≡_, refl}
+use mathlib.Core.Bool.{Bool, true, false}
+use mathlib.Core.List.{List, [], _∷_, _++_}
+use Rattle.model.specs.Places.{any}
+use Rattle.model.specs.Net.{Net, Stand, opened, closed, unknown, stand, stands, linked, spread, joined, strength, setState, new, step}
+use Rattle.model.specs.Run.{Changes, raised, lowered, unitSteps, firstHalf, secondHalf}
+use Rattle.model.specs.Answer.{row}
+use Rattle.model.specs.Rules.{nodeSizes, wireSizes, changeSizes, wireTests, changeTests, checkSizes, checkRules, resetSizes, resetRules, stepRules, stepSizes, runSizes, runRules, unitRules, ternaryRules}
+use Rattle.model.specs.Entries.{Outcome, altered, cleared, checkAnswer, resetOutcome, stepOutcome, unitOutcome, ternaryOutcome}
+use Rattle.model.specs.Bench.{line, INV, RING, LATCH}
+
+-- n times a; a table by `tab` takes a number of steps that grows with the square of n
+abbrev many : ℕ → ℕ → List ℕ
+many zero a = []
+many (suc n) a = a ∷ many n a
+
+-- a number of transistors with one node at every end
+abbrev bare : List ℕ → ℕ → Net
+bare kinds t = record { kinds = kinds; types = many t 2; gates = many t 0; sources = many t 0; drains = many t 0 }
+
+-- three nodes and one transistor
+abbrev one : ℕ → ℕ → ℕ → ℕ → ℕ → Net
+one kind type gate source drain = record { kinds = 2 ∷ kind ∷ 0 ∷ []; types = type ∷ []; gates = gate ∷ []; sources = source ∷ []; drains = drain ∷ [] }
+
+abbrev changes : List ℕ → List ℕ → Changes
+changes ps vs = record { places = ps; values = vs }
+
+abbrev left : Outcome → List ℕ
+left o = o .work
+
+-- each row of the table of stands
+abbrev stood : List Stand
+stood = stand 0 0 ∷ stand 0 1 ∷ stand 0 2 ∷ stand 1 0 ∷ stand 1 1 ∷ stand 1 2 ∷ stand 2 0 ∷ stand 2 1 ∷ stand 2 2 ∷ []
+
+abbrev stoodSo : List Stand
+stoodSo = opened ∷ closed ∷ unknown ∷ closed ∷ opened ∷ unknown ∷ closed ∷ closed ∷ closed ∷ []
+
+-- the largest tables, by their lengths: which of them are refused
+abbrev large : List Bool
+large =
+    any (nodeSizes (many 4096 0))
+    ∷ any (nodeSizes (many 4097 0))
+    ∷ any (wireSizes (bare (0 ∷ []) 8192))
+    ∷ any (wireSizes (bare (0 ∷ []) 8193))
+    ∷ any (changeSizes (changes (many 4096 0) (many 4096 0)))
+    ∷ any (changeSizes (changes (many 4097 0) (many 4097 0)))
+    ∷ []
+
+abbrev largeSo : List Bool
+largeSo = false ∷ true ∷ false ∷ true ∷ false ∷ true ∷ []
+
+-- INV: 3 nodes and 1 transistor need 14 cells
+abbrev seen : List (List ℕ)
+seen =
+    row (checkAnswer (bare [] 0))
+    ∷ row (checkAnswer (bare (many 1 0) 0))
+    ∷ row (checkAnswer (bare (many 4097 0) 0))
+    ∷ row (checkAnswer (bare (0 ∷ []) 8193))
+    ∷ row (checkAnswer (one 2 1 2 0 1))
+    ∷ row (checkAnswer (one 2 1 3 0 1))
+    ∷ row (checkAnswer (one 2 1 2 3 1))
+    ∷ row (checkAnswer (one 2 1 2 0 3))
+    ∷ row (checkAnswer (one 2 3 2 0 1))
+    ∷ row (checkAnswer (one 3 1 3 0 1))
+    ∷ line (resetOutcome (2 ∷ 1 ∷ []) (7 ∷ 255 ∷ []))
+    ∷ line (resetOutcome (2 ∷ 3 ∷ []) (7 ∷ 255 ∷ []))
+    ∷ line (resetOutcome (2 ∷ 1 ∷ []) (7 ∷ []))
+    -- a p transistor: open at 1, closed at 0, unknown at X
+    ∷ line (stepOutcome (one 0 1 2 0 1) (1 ∷ 0 ∷ 1 ∷ []) (many 14 9))
+    ∷ line (stepOutcome (one 0 1 2 0 1) (1 ∷ 0 ∷ 0 ∷ []) (many 14 9))
+    ∷ line (stepOutcome (one 0 1 2 0 1) (1 ∷ 0 ∷ 2 ∷ []) (many 14 9))
+    -- both ends one node, both ends inputs: no effect
+    ∷ line (stepOutcome (one 0 2 2 1 1) (1 ∷ 0 ∷ 1 ∷ []) (many 14 9))
+    ∷ line (stepOutcome (one 2 2 2 0 1) (1 ∷ 0 ∷ 1 ∷ []) (many 14 9))
+    -- the work area exact, and one cell less; a state above X; what is left in the area
+    ∷ line (stepOutcome INV (0 ∷ 1 ∷ 1 ∷ []) (many 14 9))
+    ∷ line (stepOutcome INV (0 ∷ 1 ∷ 1 ∷ []) (many 13 9))
+    ∷ line (stepOutcome INV (0 ∷ 1 ∷ 3 ∷ []) (many 14 9))
+    ∷ left (stepOutcome INV (0 ∷ 1 ∷ 1 ∷ []) (many 16 9))
+    ∷ left (stepOutcome INV (0 ∷ 1 ∷ 3 ∷ []) (many 16 9))
+    -- limits: the highest and one more; reached exactly; not reached; the default
+    ∷ line (unitOutcome INV (0 ∷ 1 ∷ 1 ∷ []) (changes [] []) 10000 (many 14 9))
+    ∷ line (unitOutcome INV (0 ∷ 1 ∷ 1 ∷ []) (changes [] []) 10001 (many 14 9))
+    ∷ line (unitOutcome INV (0 ∷ 1 ∷ 1 ∷ []) (changes [] []) 1 (many 14 9))
+    ∷ line (unitOutcome RING (0 ∷ 0 ∷ []) (changes [] []) 1 (many 10 9))
+    ∷ line (unitOutcome RING (0 ∷ 0 ∷ []) (changes [] []) 0 (many 10 9))
+    ∷ left (unitOutcome RING (0 ∷ 0 ∷ []) (changes [] []) 1 (many 12 9))
+    ∷ left (unitOutcome INV (0 ∷ 1 ∷ 1 ∷ []) (changes [] []) 10001 (many 16 9))
+    -- changes: no node, no input, no state, a node named earlier, one state for two nodes; an input changed to what it is
+    ∷ line (unitOutcome INV (0 ∷ 1 ∷ 0 ∷ []) (changes (3 ∷ []) (1 ∷ [])) 0 (many 14 9))
+    ∷ line (unitOutcome INV (0 ∷ 1 ∷ 0 ∷ []) (changes (1 ∷ 2 ∷ []) (1 ∷ 1 ∷ [])) 0 (many 14 9))
+    ∷ line (unitOutcome INV (0 ∷ 1 ∷ 0 ∷ []) (changes (1 ∷ []) (3 ∷ [])) 0 (many 14 9))
+    ∷ line (ternaryOutcome INV (0 ∷ 1 ∷ 0 ∷ []) (changes (1 ∷ 0 ∷ 1 ∷ []) (1 ∷ 0 ∷ 0 ∷ [])) (many 14 9))
+    ∷ line (ternaryOutcome INV (0 ∷ 1 ∷ 0 ∷ []) (changes (1 ∷ 0 ∷ []) (1 ∷ [])) (many 14 9))
+    ∷ line (ternaryOutcome LATCH (1 ∷ 0 ∷ 0 ∷ []) (changes (0 ∷ []) (1 ∷ [])) (many 14 9))
+    -- inputs only; no changes, settled and not; the work area after START and after CHANGE
+    ∷ line (unitOutcome (bare (2 ∷ 2 ∷ []) 1) (0 ∷ 1 ∷ []) (changes (1 ∷ []) (1 ∷ [])) 1 (many 10 9))
+    ∷ line (ternaryOutcome INV (0 ∷ 1 ∷ 0 ∷ []) (changes [] []) (many 14 9))
+    ∷ line (ternaryOutcome INV (0 ∷ 1 ∷ 1 ∷ []) (changes [] []) (many 14 9))
+    ∷ line (ternaryOutcome INV (0 ∷ 1 ∷ 1 ∷ []) (changes (1 ∷ []) (0 ∷ [])) (many 14 9))
+    ∷ left (ternaryOutcome INV (0 ∷ 1 ∷ 0 ∷ []) (changes (1 ∷ []) (0 ∷ [])) (many 16 9))
+    ∷ left (ternaryOutcome INV (0 ∷ 1 ∷ 1 ∷ []) (changes [] []) (many 16 9))
+    ∷ left (ternaryOutcome INV (0 ∷ 1 ∷ 1 ∷ []) (changes (2 ∷ []) (1 ∷ [])) (many 16 9))
+    ∷ []
+
+abbrev seenSo : List (List ℕ)
+seenSo =
+    (1 ∷ 0 ∷ 0 ∷ 0 ∷ [])
+    ∷ (0 ∷ 0 ∷ 0 ∷ 0 ∷ [])
+    ∷ (1 ∷ 0 ∷ 0 ∷ 0 ∷ [])
+    ∷ (1 ∷ 0 ∷ 0 ∷ 0 ∷ [])
+    ∷ (0 ∷ 0 ∷ 0 ∷ 0 ∷ [])
+    ∷ (4 ∷ 0 ∷ 0 ∷ 0 ∷ [])
+    ∷ (4 ∷ 0 ∷ 0 ∷ 0 ∷ [])
+    ∷ (4 ∷ 0 ∷ 0 ∷ 0 ∷ [])
+    ∷ (4 ∷ 0 ∷ 0 ∷ 0 ∷ [])
+    ∷ (3 ∷ 1 ∷ 0 ∷ 0 ∷ [])
+    ∷ (0 ∷ 0 ∷ 0 ∷ 0 ∷ 2 ∷ 2 ∷ [])
+    ∷ (3 ∷ 1 ∷ 0 ∷ 0 ∷ 7 ∷ 255 ∷ [])
+    ∷ (1 ∷ 0 ∷ 0 ∷ 0 ∷ 7 ∷ [])
+    ∷ (0 ∷ 0 ∷ 0 ∷ 0 ∷ 1 ∷ 0 ∷ 1 ∷ [])
+    ∷ (0 ∷ 0 ∷ 1 ∷ 0 ∷ 1 ∷ 1 ∷ 0 ∷ [])
+    ∷ (0 ∷ 0 ∷ 1 ∷ 0 ∷ 1 ∷ 2 ∷ 2 ∷ [])
+    ∷ (0 ∷ 0 ∷ 0 ∷ 0 ∷ 1 ∷ 0 ∷ 1 ∷ [])
+    ∷ (0 ∷ 0 ∷ 0 ∷ 0 ∷ 1 ∷ 0 ∷ 1 ∷ [])
+    ∷ (0 ∷ 0 ∷ 1 ∷ 0 ∷ 0 ∷ 1 ∷ 0 ∷ [])
+    ∷ (1 ∷ 0 ∷ 0 ∷ 0 ∷ 0 ∷ 1 ∷ 1 ∷ [])
+    ∷ (5 ∷ 2 ∷ 0 ∷ 0 ∷ 0 ∷ 1 ∷ 3 ∷ [])
+    ∷ (many 14 0 ++ 9 ∷ 9 ∷ [])
+    ∷ many 16 9
+    ∷ (0 ∷ 0 ∷ 1 ∷ 0 ∷ 0 ∷ 1 ∷ 0 ∷ [])
+    ∷ (2 ∷ 0 ∷ 0 ∷ 0 ∷ 0 ∷ 1 ∷ 1 ∷ [])
+    ∷ (0 ∷ 0 ∷ 1 ∷ 0 ∷ 0 ∷ 1 ∷ 0 ∷ [])
+    ∷ (8 ∷ 0 ∷ 1 ∷ 0 ∷ 0 ∷ 1 ∷ [])
+    ∷ (8 ∷ 0 ∷ 100 ∷ 0 ∷ 0 ∷ 0 ∷ [])
+    ∷ (many 10 0 ++ 9 ∷ 9 ∷ [])
+    ∷ many 16 9
+    ∷ (6 ∷ 0 ∷ 0 ∷ 0 ∷ 0 ∷ 1 ∷ 0 ∷ [])
+    ∷ (6 ∷ 1 ∷ 0 ∷ 0 ∷ 0 ∷ 1 ∷ 0 ∷ [])
+    ∷ (6 ∷ 0 ∷ 0 ∷ 0 ∷ 0 ∷ 1 ∷ 0 ∷ [])
+    ∷ (6 ∷ 2 ∷ 0 ∷ 0 ∷ 0 ∷ 1 ∷ 0 ∷ [])
+    ∷ (1 ∷ 0 ∷ 0 ∷ 0 ∷ 0 ∷ 1 ∷ 0 ∷ [])
+    ∷ (0 ∷ 0 ∷ 0 ∷ 0 ∷ 1 ∷ 0 ∷ 0 ∷ [])
+    ∷ (0 ∷ 0 ∷ 0 ∷ 0 ∷ 0 ∷ 1 ∷ [])
+    ∷ (0 ∷ 0 ∷ 0 ∷ 0 ∷ 0 ∷ 1 ∷ 0 ∷ [])
+    ∷ (7 ∷ 0 ∷ 0 ∷ 0 ∷ 0 ∷ 1 ∷ 1 ∷ [])
+    ∷ (7 ∷ 0 ∷ 0 ∷ 0 ∷ 0 ∷ 1 ∷ 1 ∷ [])
+    ∷ (many 14 0 ++ 9 ∷ 9 ∷ [])
+    ∷ (many 14 0 ++ 9 ∷ 9 ∷ [])
+    ∷ many 16 9
+    ∷ []
+
+pub edges : (stood ≡ stoodSo) × (large ≡ largeSo) × (seen ≡ seenSo)
+unfolding stands linked spread joined strength setState new step raised lowered unitSteps firstHalf secondHalf wireTests changeTests checkSizes checkRules resetSizes resetRules stepRules stepSizes runSizes runRules unitRules ternaryRules altered cleared checkAnswer resetOutcome stepOutcome unitOutcome ternaryOutcome
+edges = (refl, refl, refl)

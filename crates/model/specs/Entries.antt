@@ -1,0 +1,72 @@
+-- What each of the five entries answers, and what it leaves in the states and in the work area, on every input. Assumes nothing.
+use Prim.Native.Nat.{ℕ}
+use mathlib.Core.Path.{_≡_}
+use mathlib.Core.Bool.{Bool, not, cond}
+use mathlib.Core.List.{List, [], _∷_}
+use lib.ListN.{length}
+use lib.Dec.{eqb, ltb}
+use Rattle.model.specs.Places.{tab, count, at}
+use Rattle.model.specs.Net.{Net, nodes, step}
+use Rattle.model.specs.Run.{Changes, Ran, limitOf, unitSteps, firstHalf, secondHalf}
+use Rattle.model.specs.Rules.{Rule, judged, cells, startRule, checkRules, resetRules, stepRules, unitRules, ternaryRules}
+use Rattle.model.specs.declared.Answer.{Answer}
+use Rattle.model.specs.declared.Answer.the-variants.{Done, Oscillates}
+
+-- the answer, and what is left in the buffers that an entry may write
+pub record Outcome : Type 0 where
+  pub answer : Answer
+  pub states : List ℕ
+  pub work : List ℕ
+
+-- a refusal, with states and work area as they are
+abbrev pub untouched : List ℕ → List ℕ → Answer → Outcome
+untouched s w a = record { answer = a; states = s; work = w }
+
+-- how many nodes differ in state
+unfoldable pub altered : List ℕ → List ℕ → ℕ
+altered s r = count (length s) (λ v. not (eqb (at r v) (at s v)))
+
+-- the work area with its first `used` cells at 0
+unfoldable pub cleared : ℕ → List ℕ → List ℕ
+cleared used w = tab (length w) (λ i. cond (ltb i used) 0 (at w i))
+
+-- of any rules, and any step f of n nodes that uses so many work cells
+abbrev pub stepUnder : List Rule → (List ℕ → List ℕ) → ℕ → List ℕ → List ℕ → Outcome
+stepUnder rs f used s w = judged rs (untouched s w) (record { answer = Done (altered s (f s)) 0; states = f s; work = cleared used w })
+
+abbrev pub ranAnswer : Ran → ℕ → Answer
+ranAnswer r limit = cond (r .ends) (Done (r .count) 0) (Oscillates limit)
+
+abbrev pub unitUnder : List Rule → (List ℕ → List ℕ) → ℕ → List ℕ → Changes → ℕ → List ℕ → Outcome
+unitUnder rs f used s ch limit w =
+    judged rs (untouched s w)
+    (record { answer = ranAnswer (unitSteps f s ch limit) (limitOf limit); states = (unitSteps f s ch limit) .states; work = cleared used w })
+
+-- START comes last, and leaves the work area cleared
+abbrev pub ternaryUnder : List Rule → ℕ → (List ℕ → List ℕ) → ℕ → List ℕ → Changes → List ℕ → Outcome
+ternaryUnder rs n f used s ch w =
+    judged rs (untouched s w)
+    (judged (startRule f s ∷ []) (untouched s (cleared used w))
+    (record { answer = Done ((firstHalf n f s ch) .count) ((secondHalf n f s ch) .count); states = (secondHalf n f s ch) .states; work = cleared used w }))
+
+-- the five entries. Check may write nothing, and reset is lent no work area
+unfoldable pub checkAnswer : Net → Answer
+checkAnswer net = judged (checkRules net) (λ a. a) (Done 0 0)
+
+unfoldable pub resetOutcome : List ℕ → List ℕ → Outcome
+resetOutcome kinds s = judged (resetRules kinds s) (untouched s []) (record { answer = Done 0 0; states = tab (length s) (λ v. 2); work = [] })
+
+unfoldable pub stepOutcome : Net → List ℕ → List ℕ → Outcome
+stepOutcome net s w = stepUnder (stepRules net s w) (step net) (cells net) s w
+
+unfoldable pub unitOutcome : Net → List ℕ → Changes → ℕ → List ℕ → Outcome
+unitOutcome net s ch limit w = unitUnder (unitRules net s ch limit w) (step net) (cells net) s ch limit w
+
+unfoldable pub ternaryOutcome : Net → List ℕ → Changes → List ℕ → Outcome
+ternaryOutcome net s ch w = ternaryUnder (ternaryRules net s ch w) (nodes net) (step net) (cells net) s ch w
+
+-- what a contract says of an entry: its answer, its states and its work area at exit are those of the outcome
+pub record Leaves (o : Outcome) (answer : Answer) (states work : List ℕ) : Type 0 where
+  pub answers : answer ≡ o .answer
+  pub states-left : states ≡ o .states
+  pub work-left : work ≡ o .work

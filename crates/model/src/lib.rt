@@ -1,0 +1,106 @@
+// What an entry answers, shared by the code and by the definitions of its meaning (specs/). The definitions of a network, of its
+// steps and of its runs are in specs/, what is proved of them in proofs/.
+ghost use mathlib.Core.Path.{_≡_};
+ghost use Rattle.model.specs.Answer.{number, place, firstCount, secondCount};
+
+// One of nine kinds, each with its own numbers.
+pub enum Answer {
+    // settled, or done with what was asked; the counts of a step, a unit run, both halves of a ternary run
+    Done { first: u32, second: u32 },
+    // a length or a count breaks the bounds
+    Size,
+    // the step limit is too high
+    Limit,
+    // the first node of no known kind
+    Kind(u32),
+    // the first transistor of no known type, or that names no node
+    Wire(u32),
+    // the first node in no known state
+    State(u32),
+    // the first entry of the change list that can't be entered
+    Change(u32),
+    // a ternary run from a state that is not settled
+    Start,
+    // a unit run that did not settle within its limit
+    Oscillates(u32),
+}
+
+// Whether what is lent is taken, or which refusal it gets.
+pub enum Verdict {
+    Accepted,
+    Refused(Answer),
+}
+
+// The answer's number in the table of answers.
+pub fn number_of(a: Answer) -> u32
+    ensures { λ r. ⌜ r ≡ number a ⌝ }
+{
+    match a {
+        Answer::Done {
+            first: _,
+            second: _,
+        } => 0,
+        Answer::Size => 1,
+        Answer::Limit => 2,
+        Answer::Kind(_) => 3,
+        Answer::Wire(_) => 4,
+        Answer::State(_) => 5,
+        Answer::Change(_) => 6,
+        Answer::Start => 7,
+        Answer::Oscillates(_) => 8,
+    }
+}
+
+// The node, transistor or entry that a refusal is about, else 0.
+pub fn place_of(a: Answer) -> u32
+    ensures { λ r. ⌜ r ≡ place a ⌝ }
+{
+    match a {
+        Answer::Kind(p) => p,
+        Answer::Wire(p) => p,
+        Answer::State(p) => p,
+        Answer::Change(p) => p,
+        Answer::Done {
+            first: _,
+            second: _,
+        } => 0,
+        Answer::Size => 0,
+        Answer::Limit => 0,
+        Answer::Start => 0,
+        Answer::Oscillates(_) => 0,
+    }
+}
+
+// Its first count.
+pub fn first_count_of(a: Answer) -> u32
+    ensures { λ r. ⌜ r ≡ firstCount a ⌝ }
+{
+    match a {
+        Answer::Done { first, second: _ } => first,
+        Answer::Oscillates(limit) => limit,
+        Answer::Size => 0,
+        Answer::Limit => 0,
+        Answer::Kind(_) => 0,
+        Answer::Wire(_) => 0,
+        Answer::State(_) => 0,
+        Answer::Change(_) => 0,
+        Answer::Start => 0,
+    }
+}
+
+// Its second count.
+pub fn second_count_of(a: Answer) -> u32
+    ensures { λ r. ⌜ r ≡ secondCount a ⌝ }
+{
+    match a {
+        Answer::Done { first: _, second } => second,
+        Answer::Size => 0,
+        Answer::Limit => 0,
+        Answer::Kind(_) => 0,
+        Answer::Wire(_) => 0,
+        Answer::State(_) => 0,
+        Answer::Change(_) => 0,
+        Answer::Start => 0,
+        Answer::Oscillates(_) => 0,
+    }
+}
