@@ -1,4 +1,5 @@
--- What a network may do when its changed inputs arrive, and its nodes follow, in any order. Assumes nothing.
+-- A step to which the laws of runs apply, and what a network may do when its changed inputs arrive, and its nodes follow, in any order.
+-- Assumes nothing.
 use Prim.Native.Nat.{ℕ, _<_}
 use mathlib.Core.Path.{_≡_}
 use mathlib.Core.Bool.{Bool, true, false}
@@ -6,6 +7,13 @@ use mathlib.Core.Logic.{_⊎_}
 use mathlib.Core.List.{List}
 use lib.ListN.{length}
 use Rattle.model.specs.Places.{at}
+use Rattle.model.specs.Order.{_≼_}
+
+-- any step of n nodes that keeps lengths, holds inputs and is monotone: where less is known before it, no more is known after it
+pub record Stepper (n : ℕ) (input : ℕ → Bool) (f : List ℕ → List ℕ) : Type 0 where
+  pub sized : (s : List ℕ) → length (f s) ≡ n
+  pub keeps : (s : List ℕ) (v : ℕ) → v < n → input v ≡ true → at (f s) v ≡ at s v
+  pub mono : (s t : List ℕ) → s ≼ t → f s ≼ f t
 
 -- n nodes, of which `input` says which are inputs; f, one step of all nodes; `changed` marks the inputs that are to take their state of `to`
 module _ (n : ℕ) (input changed : ℕ → Bool) (f : List ℕ → List ℕ) (to : List ℕ) where
