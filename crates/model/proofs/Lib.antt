@@ -9,3 +9,5 @@ pub mod Cover
 pub mod Sweep
 pub mod Ways
 pub mod RuleOne
+pub mod Ternary
+pub mod Judged
