@@ -12,7 +12,7 @@ use lib.Dec.{eqb, ltb}
 use borrow.Author.Tests.{eqb-true, eqb-false, eq-eqb, ne-eqb, ltb-true, ltb-false, not-true, not-false}
 use Rattle.model.specs.Places.{at, iter, count}
 use Rattle.model.specs.Order.{_⊑_, _≼_}
-use Rattle.model.specs.Cover.{Stepper, May, stays, arrives, follows, Reach, start, move}
+use Rattle.model.specs.Cover.{Stepper, May, stays, arrives, follows, Reach, begin, move, OneByOne, start, arrive, follow}
 use Rattle.model.specs.Demands.{freeNodes}
 use Rattle.model.proofs.Descent.{count-le, count-lt, Differ, equal-or-differ, iter-fixed, iter-keeps, Still, descent}
 
@@ -155,7 +155,7 @@ module _ (n : ℕ) (input : ℕ → Bool) (f : List ℕ → List ℕ) (st : Step
   module _ (changed : ℕ → Bool) (from to : List ℕ) where
     -- u is settled, covers the start, and has X at each changed input: it covers whatever is reached
     pub reach-below : (u : List ℕ) → f u ≡ u → from ≼ u → ((v : ℕ) → changed v ≡ true → at u v ≡ 2) → (s : List ℕ) → Reach n input changed f to from s → s ≼ u
-    reach-below u e h x s start v = h v
+    reach-below u e h x s begin v = h v
     reach-below u e h x s (move {s = r} p t k may) v = go (λ i. reach-below u e h x r p i) (may v)
       where
         go : r ≼ u → May n input changed f to r v (at t v) → at t v ⊑ at u v
@@ -173,3 +173,13 @@ module _ (n : ℕ) (input : ℕ → Bool) (f : List ℕ → List ℕ) (st : Step
         go : (v : ℕ) → v < n → (b : Bool) → input v ≡ b → at s v ⊑ at t v
         go v l true i = inl (inputs v l i)
         go v l false i = rw (same v l i) (reach-below u e h x s r v)
+
+    -- one by one is a case of any nodes at once
+    pub one-reach : (s : List ℕ) → OneByOne n input changed f to from s → Reach n input changed f to from s
+    one-reach s start = begin
+    one-reach s (arrive {s = r} p v c) =
+        move (one-reach r p) (set r v (at to v)) (length-set r v (at to v))
+        (λ i. elim (set-at r v (at to v) i) [ inl e ↦ stays e | inr q ↦ arrives (ap changed (q .0) ∙ c) (q .1 ∙ ap (at to) (sym (q .0))) ])
+    one-reach s (follow {s = r} p v l h) =
+        move (one-reach r p) (set r v (at (f r) v)) (length-set r v (at (f r) v))
+        (λ i. elim (set-at r v (at (f r) v) i) [ inl e ↦ stays e | inr q ↦ follows (omega (arith, q .0)) (ap input (q .0) ∙ h) (q .1 ∙ ap (at (f r)) (sym (q .0))) ])

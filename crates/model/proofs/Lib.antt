@@ -11,3 +11,6 @@ pub mod Ways
 pub mod RuleOne
 pub mod Ternary
 pub mod Judged
+pub mod Changes
+pub mod Outcomes
+pub mod Demands

@@ -14,11 +14,12 @@ use Rattle.model.specs.Places.{tab, at, every, most, imp}
 use Rattle.model.specs.Net.{Net, nodes, transistors, isInput, isPullup, Stand, opened, closed, unknown, stands, standAt, everyChoice, linked, joined, strength, sourceState, agreed, setState, new, step}
 use Rattle.model.specs.Order.{_⊑_, _≼_}
 use Rattle.model.specs.Cover.{Stepper}
+use Rattle.model.specs.Demands.{Fits, Choice}
 use Rattle.model.specs.Ways.{Frame, Lawful, Inside, Joins, Way, source, pass, Definite, Unblocked, From, choose}
 use Rattle.model.specs.Tables.{StepTables, byTables, definite, fresh, stepBy}
 use Rattle.model.specs.RuleOne.{ownStrength, frame, quickStep}
 use Rattle.model.proofs.Places.{length-tab, getD-tab, every-at, every-of, most-of, most-at, imp-of, imp-at}
-use Rattle.model.proofs.Choices.{Fits, Pick, everyChoice-at, everyChoice-of, Within, way-tab, way-at, stand-mono}
+use Rattle.model.proofs.Choices.{everyChoice-at, everyChoice-of, Within, choice-tab, choice-at, stand-mono}
 use Rattle.model.proofs.Joined.{_∈_, member-below, Ends, Link, linked-at, linked-of, Walk, here, more, joined-walk, walk-joined}
 use Rattle.model.proofs.Agreed.{agreed-cong}
 use Rattle.model.proofs.Ways.{way-map, way-below, way-fine, way-input, way-start, way-top, way-pos, definite-most, definite-way, unblocked-open, none, none-from, from-none, fresh-says, from-down, tables-fresh, stepBy-at, stepBy-length, scheme-stepper}
@@ -252,9 +253,9 @@ module _ (net : Net) where
     unfolding pick
     pick-at t l = getD-tab (transistors net) _ false t l
 
-    pub pick-way : Pick (stands net s) pick
+    pub pick-way : Choice (stands net s) pick
     unfolding stands pick
-    pick-way = way-tab (transistors net) how near
+    pick-way = choice-tab (transistors net) how near
 
     near-at : (t x w : ℕ) → Joins F t x w → near t ≡ true → (at D x ≤ K) × (at D w ≤ K)
     unfolding near
@@ -307,9 +308,9 @@ module _ (net : Net) where
 
   -- all choices
   module _ (s : List ℕ) (v : ℕ) (hv : Inner net v) where
-    within-choice : (c : List Bool) → Pick (stands net s) c → (t : ℕ) → t < transistors net → Within (by c t) (standAt net s t)
+    within-choice : (c : List Bool) → Choice (stands net s) c → (t : ℕ) → t < transistors net → Within (by c t) (standAt net s t)
     unfolding stands
-    within-choice c w t l = fits-within (standAt net s t) (getD c t false) (way-at (transistors net) (standAt net s) c w t l)
+    within-choice c w t l = fits-within (standAt net s t) (getD c t false) (choice-at (transistors net) (standAt net s) c w t l)
 
     all-ways-from : (b : ℕ) → b < 2 → allWays s v b ≡ true → From F (standAt net s) (sourceState net s) b v
     all-ways-from b l e u k p =

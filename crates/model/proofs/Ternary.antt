@@ -12,7 +12,7 @@ use lib.Dec.{eqb, ltb}
 use borrow.Author.Tests.{eqb-true, eq-eqb, not-false, ltb-true, ltb-false}
 use Rattle.model.specs.Places.{at, iter, same}
 use Rattle.model.specs.Order.{_⊑_, _≼_}
-use Rattle.model.specs.Cover.{Stepper, May, stays, arrives, follows, Reach, start, move}
+use Rattle.model.specs.Cover.{Stepper, May, stays, arrives, follows, Reach, begin, move}
 use Rattle.model.specs.Run.{Changes, Ran, put, entered, changed, raised, lowered, settle}
 use Rattle.model.specs.Demands.{Settles, Unsettled, freeNodes, Covered}
 use Rattle.model.proofs.Places.{length-tab, getD-tab}
@@ -199,7 +199,7 @@ module _ (N : ℕ) (input : ℕ → Bool) (F : List ℕ → List ℕ) (st : Step
 
   -- the new inputs, all at once
   pub all-arrived : Reach N input (changed s to) F to s to
-  all-arrived = move start to (sized-to ∙ sym sized) (λ v. go v (changed s to v) refl)
+  all-arrived = move begin to (sized-to ∙ sym sized) (λ v. go v (changed s to v) refl)
     where
       go : (v : ℕ) (b : Bool) → changed s to v ≡ b → May N input (changed s to) F to s v (at to v)
       go v true e = arrives e refl
