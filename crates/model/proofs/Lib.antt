@@ -14,3 +14,4 @@ pub mod Judged
 pub mod Changes
 pub mod Outcomes
 pub mod Demands
+pub mod Alike
