@@ -48,7 +48,7 @@ module _ (net : Net) where
 
 -- Reset
 module _ (kinds s : List ℕ) where
-  abbrev resetDone : Outcome
+  abbrev pub resetDone : Outcome
   resetDone = record { answer = Done 0 0; states = tab (length s) (λ v. 2); work = [] }
 
   pub reset-told : Told (resetRules kinds s) (untouched s []) resetDone (resetOutcome kinds s)
@@ -62,7 +62,7 @@ module _ (kinds s : List ℕ) where
 
 -- Step
 module _ (net : Net) (s w : List ℕ) where
-  abbrev stepDone : Outcome
+  abbrev pub stepDone : Outcome
   stepDone = record { answer = Done (altered s (step net s)) 0; states = step net s; work = cleared (cells net) w }
 
   step-numbered : Numbered 7 (stepRules net s w)
@@ -90,7 +90,7 @@ module _ (net : Net) (s w : List ℕ) where
 
 -- Unit run
 module _ (net : Net) (s : List ℕ) (ch : Changes) (limit : ℕ) (w : List ℕ) where
-  abbrev unitEnd : Outcome
+  abbrev pub unitEnd : Outcome
   unitEnd = record { answer = ranAnswer (unitSteps (step net) s ch limit) (limitOf limit); states = (unitSteps (step net) s ch limit) .states; work = cleared (cells net) w }
 
   unit-numbered : Numbered 7 (unitRules net s ch limit w)
@@ -134,7 +134,7 @@ module _ (net : Net) (s : List ℕ) (ch : Changes) (limit : ℕ) (w : List ℕ) 
 
 -- Ternary run
 module _ (net : Net) (s : List ℕ) (ch : Changes) (w : List ℕ) where
-  abbrev ternaryEnd : Outcome
+  abbrev pub ternaryEnd : Outcome
   ternaryEnd =
       record {
         answer = Done ((firstHalf (nodes net) (step net) s ch) .count) ((secondHalf (nodes net) (step net) s ch) .count);
