@@ -1,17 +1,17 @@
 -- Order-freedom of the entries: alike networks, where neither is refused for its size, get the same answer, counts and states, the place of a refused
 -- transistor aside; and so do two lists of the same changes. Assumes nothing.
-use Prim.Native.Nat.{ℕ, zero, suc, _≤_, _<_}
+use Prim.Native.Nat.{ℕ, _<_}
 use native.Mathlib.Omega.{arith}
-use mathlib.Core.Path.{_≡_, refl, ap, ap₂, _∙_, sym, subst}
+use mathlib.Core.Path.{_≡_, refl, ap, _∙_, sym, subst}
 use mathlib.Core.Logic.{_⊎_, inl, inr}
-use mathlib.Core.Bool.{Bool, true, false, not, true≢false, false≢true}
+use mathlib.Core.Bool.{Bool, true, false, not, true≢false}
 use mathlib.Core.List.{List, [], _∷_}
 use lib.ListN.{length}
 use lib.Dec.{eqb, ltb}
 use borrow.Author.Tests.{ltb-true, ltb-false, eqb-true, not-false}
 use Rattle.model.specs.Bounds.{highestType}
 use Rattle.model.specs.Places.{at, any, first}
-use Rattle.model.specs.Net.{Net, nodes, transistors, isInput, step}
+use Rattle.model.specs.Net.{Net, nodes, isInput, step}
 use Rattle.model.specs.Run.{Changes, Ran, entered, settle, limitOf, raised, lowered, unitSteps, firstHalf, secondHalf}
 use Rattle.model.specs.Answer.{number}
 use Rattle.model.specs.Rules.{Rule, judge, given, judged, cells, sizeRule, limitRule, kindRule, wireRule, stateRule, changeRule, startRule, wireTests, changeTests, checkSizes, checkRules, stepSizes, stepRules, runSizes, runRules, unitRules, ternaryRules}

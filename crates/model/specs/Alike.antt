@@ -2,7 +2,6 @@
 use Prim.Native.Nat.{ℕ, _<_}
 use mathlib.Core.Path.{_≡_}
 use mathlib.Core.Logic.{_⊎_}
-use mathlib.Core.List.{List}
 use lib.ListN.{length}
 use Rattle.model.specs.Places.{at}
 use Rattle.model.specs.Net.{Net, transistors}
