@@ -18,10 +18,10 @@ enum { NODES = 5, TRANSISTORS = 4, CHANGES = 2 };
 static struct storage storage;
 
 /* A settled network: nodes 0 and 1 inputs, 2 the output of an inverter, 3 and 4
-   behind a pass transistor and a p transistor. */
+   behind a pass transistor and a p transistor. Whatever a fault may have altered
+   is written anew; the tables' far parts are 0 and stay so. */
 static struct call sound_call(enum entry entry)
 {
-    memset(&storage, 0, sizeof storage);
     struct call call = network_call(&storage, NODES, TRANSISTORS);
     call.entry = entry;
     network_kinds(&call, "IIPNN");

@@ -20,10 +20,11 @@ enum {
     SMALL_BYTES = 4096,        /* one page: whatever small networks need */
     LARGE_BYTES = 70000 * 2,   /* the longest tables of the check */
     REPORTS = 5,               /* differences told in full; the rest is only counted */
-    PATIENCE = 120             /* seconds until a call counts as running on */
+    MOST_TRAPS = 20            /* the check ends after so many */
 };
 
 struct door_counts door_counts;
+int door_patience = 120;
 
 static struct room small_rooms[TABLES], large_rooms[TABLES];
 static bool lend_null;
@@ -51,7 +52,7 @@ static void on_trap(int signal_number)
 
 static void on_second(int signal_number)
 {
-    if (in_call && ++seconds_in_call > PATIENCE)
+    if (in_call && ++seconds_in_call > door_patience)
         siglongjmp(before_call, signal_number);
 }
 
@@ -253,6 +254,10 @@ static void report_trap(const struct call *call, enum flush flush, int trapped)
         print_call(call, flush);
     }
     door_counts.traps++;
+    if (trapped == SIGALRM || door_counts.traps == MOST_TRAPS) {
+        printf("the check ends here: %" PRIu64 " traps\n", door_counts.traps);
+        exit(1);
+    }
 }
 
 static void report_stray(const struct call *call, enum flush flush, const char *table)

@@ -20,6 +20,9 @@ struct door_counts {
 
 extern struct door_counts door_counts;
 
+/* Seconds until a call counts as running on. */
+extern int door_patience;
+
 /* Makes the memory to lend and sets up the handlers of traps. */
 void door_open(void);
 

@@ -3,7 +3,7 @@
    group's shell would, and compares everything that comes back with the
    brute-force program.
 
-       host [--seed S] [--from K] [--networks N] [--small-part P] [CHECK...]
+       host [--seed S] [--from K] [--networks N] [--small-part P] [--patience SECONDS] [CHECK...]
 
    The checks are bench, refusals, full, small and random; all if none is named.
    Ends with status 0 only if there was no difference, no trap and no stray write.
@@ -16,6 +16,7 @@
 #include <stdlib.h>
 #include <string.h>
 #include <time.h>
+#include <unistd.h>
 
 #include "door.h"
 
@@ -38,12 +39,14 @@ static double now(void)
 void progress(const char *what, uint64_t done, uint64_t whole)
 {
     static double last;
-    if (now() - last < 2)
+    bool on_screen = isatty(STDERR_FILENO);
+    if (now() - last < (on_screen ? 2 : 60))
         return;
     last = now();
-    fprintf(stderr, "\r%s: %" PRIu64 " of %" PRIu64 ", %" PRIu64 " differences, %" PRIu64
-            " traps, %" PRIu64 " stray writes   ", what, done, whole, door_counts.differences,
-            door_counts.traps, door_counts.stray);
+    fprintf(stderr, "%s%s: %" PRIu64 " of %" PRIu64 ", %" PRIu64 " differences, %" PRIu64
+            " traps, %" PRIu64 " stray writes%s", on_screen ? "\r" : "", what, done, whole,
+            door_counts.differences, door_counts.traps, door_counts.stray,
+            on_screen ? "   " : "\n");
 }
 
 static uint64_t number_after(int *at, int count, char **words)
@@ -63,7 +66,8 @@ static void run_check(int k, const struct options *options)
     double began = now();
     uint64_t calls = door_counts.calls;
     checks[k].check(options);
-    fprintf(stderr, "\r%78s\r", "");
+    if (isatty(STDERR_FILENO))
+        fprintf(stderr, "\r%78s\r", "");
     printf("  %" PRIu64 " calls of the library, %.1f s\n", door_counts.calls - calls,
            now() - began);
     fflush(stdout);
@@ -84,6 +88,8 @@ int main(int count, char **words)
             options.networks = number_after(&at, count, words);
         else if (strcmp(words[at], "--small-part") == 0)
             options.small_part = (uint32_t)number_after(&at, count, words);
+        else if (strcmp(words[at], "--patience") == 0)
+            door_patience = (int)number_after(&at, count, words);
         else
             known = false;
         for (int k = 0; k < CHECKS && !known; k++)

@@ -19,7 +19,8 @@ void check_full_size(const struct options *options);
 void check_small(const struct options *options);
 void check_random(const struct options *options);
 
-/* A line each two seconds, for checks that take long. */
+/* For checks that take long: a line that is written over each two seconds, or a
+   line each minute where it goes to no screen. */
 void progress(const char *what, uint64_t done, uint64_t whole);
 
 #endif

@@ -226,8 +226,9 @@ bool plain_ternary_run(struct plain *plain, uint8_t *states, const struct plain_
     for (size_t i = 0; i < changes->count; i++)
         if (states[changes->nodes[i]] != changes->states[i])
             states[changes->nodes[i]] = UNKNOWN;
-    settle(plain, states, UINT32_MAX, &counts[0]);
+    uint32_t enough = (uint32_t)plain->network.nodes; /* no half takes more steps */
+    settle(plain, states, enough, &counts[0]);
     enter(states, changes);
-    settle(plain, states, UINT32_MAX, &counts[1]);
+    settle(plain, states, enough, &counts[1]);
     return true;
 }
