@@ -7,7 +7,7 @@
    library wherever that is 0 or 1. Each half of the ternary run must take at most
    as many steps as there are nodes that are not inputs.
 
-       arrivals [--seed S] [--from K] [--networks N]
+       arrivals [--seed S] [--from K] [--networks N] [--enough FINDINGS]
 */
 #include <inttypes.h>
 #include <stdio.h>
@@ -136,8 +136,11 @@ static void one_network(uint64_t seed, uint64_t number)
     network_random_changes(&call, &dice);
     network_random_work(&call, &dice);
     call.entry = ENTRY_TERNARY_RUN;
-    door_compare(&call, answer);
-    if (answer[0] != 0 || answer[2] > nodes - inputs || answer[3] > nodes - inputs)
+    if (!door_ask(&call, answer))
+        return;
+    if (answer[0] != 0)
+        door_difference("a ternary run from a settled start is not done");
+    else if (answer[2] > nodes - inputs || answer[3] > nodes - inputs)
         door_difference("a half takes more steps than there are nodes that are not inputs");
     counts.doubted += memchr(call.states.at, UNKNOWN, nodes) != NULL;
     explore(&call, start, call.states.at);
@@ -154,6 +157,8 @@ int main(int count, char **words)
             from = number;
         else if (strcmp(words[at], "--networks") == 0)
             networks = number;
+        else if (strcmp(words[at], "--enough") == 0)
+            door_enough = number;
         else {
             fprintf(stderr, "arrivals: %s is no option\n", words[at]);
             return 2;

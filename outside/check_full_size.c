@@ -361,7 +361,7 @@ static void tiled(size_t nodes, size_t transistors, struct dice *dice)
                 start[v] = UNKNOWN;
         memcpy(call.states.at, start, nodes);
         call.entry = ENTRY_UNIT_RUN;
-        call.limit = 10000;
+        call.limit = 0;
         call.change_nodes.length = call.change_states.length = 0;
         expect(&call, DONE, 0, tiled_step, dice);
         memcpy(start, call.states.at, nodes);

@@ -19,12 +19,12 @@ enum table { KINDS, STATES, TYPES, GATES, SOURCES, DRAINS, CHANGE_NODES, CHANGE_
 enum {
     SMALL_BYTES = 4096,        /* one page: whatever small networks need */
     LARGE_BYTES = 70000 * 2,   /* the longest tables of the check */
-    REPORTS = 5,               /* differences told in full; the rest is only counted */
-    MOST_TRAPS = 20            /* the check ends after so many */
+    REPORTS = 5                /* findings told in full; the rest is only counted */
 };
 
 struct door_counts door_counts;
 int door_patience = 120;
+uint64_t door_enough = UINT64_MAX;
 
 static struct room small_rooms[TABLES], large_rooms[TABLES];
 static bool lend_null;
@@ -197,9 +197,24 @@ void door_lend_null(bool null)
     lend_null = null;
 }
 
+static uint64_t findings(void)
+{
+    return door_counts.differences + door_counts.traps + door_counts.stray;
+}
+
 static bool report_wanted(void)
 {
-    return door_counts.differences + door_counts.traps + door_counts.stray < REPORTS;
+    return findings() < REPORTS;
+}
+
+static void count_finding(uint64_t *count)
+{
+    ++*count;
+    if (findings() >= door_enough) {
+        printf("the check ends here: %" PRIu64 " differences, %" PRIu64 " traps, %" PRIu64
+               " stray writes\n", door_counts.differences, door_counts.traps, door_counts.stray);
+        exit(1);
+    }
 }
 
 static void report_head(const char *what)
@@ -253,11 +268,7 @@ static void report_trap(const struct call *call, enum flush flush, int trapped)
         printf("  signal %d\n", trapped);
         print_call(call, flush);
     }
-    door_counts.traps++;
-    if (trapped == SIGALRM || door_counts.traps == MOST_TRAPS) {
-        printf("the check ends here: %" PRIu64 " traps\n", door_counts.traps);
-        exit(1);
-    }
+    count_finding(&door_counts.traps);
 }
 
 static void report_stray(const struct call *call, enum flush flush, const char *table)
@@ -267,7 +278,7 @@ static void report_stray(const struct call *call, enum flush flush, const char *
         printf("  beside the %s\n", table);
         print_call(call, flush);
     }
-    door_counts.stray++;
+    count_finding(&door_counts.stray);
 }
 
 static void report_difference(const struct call *call, enum flush flush, const char *where,
@@ -285,7 +296,7 @@ static void report_difference(const struct call *call, enum flush flush, const c
             print_states("states got   ", found(&lent[STATES]), call->states.length);
         }
     }
-    door_counts.differences++;
+    count_finding(&door_counts.differences);
 }
 
 void door_difference(const char *what)
@@ -294,7 +305,7 @@ void door_difference(const char *what)
         report_head("DIFFERENCE");
         printf("  %s\n", what);
     }
-    door_counts.differences++;
+    count_finding(&door_counts.differences);
 }
 
 bool door_clean(void)
@@ -307,6 +318,22 @@ bool door_clean(void)
 static bool same(const struct lent *lent, const void *wanted)
 {
     return lent->bytes == 0 || memcmp(found(lent), wanted, lent->bytes) == 0;
+}
+
+/* Whether nothing was written beside the tables. */
+static bool kept_within(const struct call *call, enum flush flush, const struct lent lent[TABLES])
+{
+    static const enum table written[] = {STATES, WORK, ANSWER};
+    static const char *const names[] = {"states", "work area", "answer"};
+    const char *strayed = NULL;
+    for (int k = 0; k < 3; k++) {
+        const struct lent *table = &lent[written[k]];
+        if (room_strayed(table->room, table->place, table->bytes))
+            strayed = names[k];
+    }
+    if (strayed)
+        report_stray(call, flush, strayed);
+    return strayed == NULL;
 }
 
 static bool try_flush(const struct call *call, const struct outcome *wanted, enum flush flush)
@@ -327,18 +354,22 @@ static bool try_flush(const struct call *call, const struct outcome *wanted, enu
         report_trap(call, flush, trapped);
     else if (where)
         report_difference(call, flush, where, wanted, lent);
+    bool within = kept_within(call, flush, lent);
+    return !trapped && !where && within;
+}
 
-    static const enum table written[] = {STATES, WORK, ANSWER};
-    static const char *const names[] = {"states", "work area", "answer"};
-    const char *strayed = NULL;
-    for (int k = 0; k < 3; k++) {
-        const struct lent *table = &lent[written[k]];
-        if (room_strayed(table->room, table->place, table->bytes))
-            strayed = names[k];
-    }
-    if (strayed)
-        report_stray(call, flush, strayed);
-    return !trapped && !where && !strayed;
+bool door_ask(struct call *call, uint32_t answer[4])
+{
+    struct lent lent[TABLES];
+    lend_all(lent, call, FLUSH_END);
+    door_counts.calls++;
+    int trapped = call_guarded(call, lent);
+    if (trapped)
+        report_trap(call, FLUSH_END, trapped);
+    memcpy(call->states.at, found(&lent[STATES]), call->states.length);
+    memcpy(call->work.at, found(&lent[WORK]), 2 * call->work.length);
+    memcpy(answer, found(&lent[ANSWER]), 4 * sizeof *answer);
+    return kept_within(call, FLUSH_END, lent) && !trapped;
 }
 
 bool door_try(const struct call *call, const struct outcome *wanted)

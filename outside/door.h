@@ -23,6 +23,9 @@ extern struct door_counts door_counts;
 /* Seconds until a call counts as running on. */
 extern int door_patience;
 
+/* After so many findings the program ends, with status 1. */
+extern uint64_t door_enough;
+
 /* Makes the memory to lend and sets up the handlers of traps. */
 void door_open(void);
 
@@ -37,6 +40,10 @@ bool door_try(const struct call *call, const struct outcome *wanted);
    and work area are those that must be left, and `answer` what must be answered. */
 bool door_compare(struct call *call, uint32_t answer[4]);
 bool door_compare_by(brute_stepper *step, struct call *call, uint32_t answer[4]);
+
+/* Calls the library and wants nothing: the call's states and work area become
+   those that it left, `answer` what it answered. False if it trapped. */
+bool door_ask(struct call *call, uint32_t answer[4]);
 
 /* A table of length 0 is lent as NULL from now on, or as a pointer to an
    untouchable page. */

@@ -3,7 +3,8 @@
    group's shell would, and compares everything that comes back with the
    brute-force program.
 
-       host [--seed S] [--from K] [--networks N] [--small-part P] [--patience SECONDS] [CHECK...]
+       host [--seed S] [--from K] [--networks N] [--small-part P] [--patience SECONDS]
+            [--enough FINDINGS] [CHECK...]
 
    The checks are bench, refusals, full, small and random; all if none is named.
    Ends with status 0 only if there was no difference, no trap and no stray write.
@@ -90,6 +91,8 @@ int main(int count, char **words)
             options.small_part = (uint32_t)number_after(&at, count, words);
         else if (strcmp(words[at], "--patience") == 0)
             door_patience = (int)number_after(&at, count, words);
+        else if (strcmp(words[at], "--enough") == 0)
+            door_enough = number_after(&at, count, words);
         else
             known = false;
         for (int k = 0; k < CHECKS && !known; k++)

@@ -38,8 +38,8 @@ link() { # WITH...
 caught_by() {
     for check in bench random refusals full small arrivals; do
         case $check in
-        arrivals) words="--networks 20000" ;;
-        *) words="$check --networks 1500 --small-part 3000 --patience 5" ;;
+        arrivals) words="--networks 20000 --enough 1" ;;
+        *) words="$check --networks 1500 --small-part 3000 --patience 5 --enough 1" ;;
         esac
         program=$room/host
         [ $check = arrivals ] && program=$room/arrivals
