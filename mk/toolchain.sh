@@ -3,6 +3,7 @@
 # Debian's cross compiler and run by the emulator of the Rattle kit.
 #
 #   toolchain.sh cc                   prints the C compiler to use, after installing it if need be
+#   toolchain.sh ar                   prints the archiver that goes with it
 #   toolchain.sh run                  prints what runs a program: nothing, or the emulator
 #   toolchain.sh need COMMAND PACKAGE makes sure of a command, from a Debian package
 #
@@ -36,6 +37,13 @@ cc)
             && echo 'x86_64-linux-gnu-gcc -static'
     fi
     ;;
+ar)
+    if [ "$machine" = x86_64 ]; then
+        need ar binutils && echo ar
+    else
+        need x86_64-linux-gnu-ar binutils-x86-64-linux-gnu && echo x86_64-linux-gnu-ar
+    fi
+    ;;
 run)
     [ "$machine" = x86_64 ] && exit 0
     emulator=$kit/on/$machine/toolchain/bin/qemu-x86_64
@@ -51,7 +59,7 @@ need)
     need "$@"
     ;;
 *)
-    say 'usage: toolchain.sh cc | run | need COMMAND PACKAGE'
+    say 'usage: toolchain.sh cc | ar | run | need COMMAND PACKAGE'
     exit 2
     ;;
 esac

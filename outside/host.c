@@ -41,6 +41,8 @@ void progress(const char *what, uint64_t done, uint64_t whole)
 {
     static double last;
     bool on_screen = isatty(STDERR_FILENO);
+    if (last == 0)
+        last = now();
     if (now() - last < (on_screen ? 2 : 60))
         return;
     last = now();

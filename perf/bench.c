@@ -128,7 +128,7 @@ static double seconds(simulate *call, const struct result *start, const struct c
         double taken = now() - before;
         best = taken < best ? taken : best;
         repeats++;
-    } while (repeats < 1000 && now() - began < 0.2);
+    } while (repeats < 1000 && now() - began < (repeats < 3 ? 2 : 0.2));
     return best;
 }
 
