@@ -29,6 +29,8 @@ for source in examples/*.c; do
     $cc -std=c11 -O2 -Wall -Wextra -Werror -Iinclude -o "build/examples/$name" "$source" "$library" \
         || { fail "$name does not compile" && continue; }
     $run "build/examples/$name" >"build/examples/$name.out" || fail "$name ends with an error"
+    g++ -std=c++11 -Wall -Wextra -Werror -Iinclude -fsyntax-only -x c++ "$source" \
+        || fail "$name is no good C++"
     diff "examples/$name.expected" "build/examples/$name.out" || fail "$name prints something else"
 done
 [ $failed -eq 0 ] && echo "examples: header and $(ls examples/*.c | wc -l) examples as they should be"

@@ -49,7 +49,7 @@ build/%.o: %.c $(DOOR_HEADERS)
 	@$(DOOR_CC) && $$cc $(DOOR_CFLAGS) -c -o $@ $<
 
 DOOR_PARTS = build/outside/door.o build/outside/lend.o build/outside/network.o build/outside/brute.o
-HOST_PARTS = build/outside/host.o build/outside/check_bench_set.o build/outside/check_refusals.o \
+HOST_PARTS = build/outside/host.o build/outside/numbers.o build/outside/check_bench_set.o build/outside/check_refusals.o \
 	build/outside/check_full_size.o build/outside/check_small.o build/outside/check_random.o $(DOOR_PARTS)
 BENCH_SOURCES = perf/bench.c perf/shapes.c perf/plain.c
 
@@ -78,8 +78,9 @@ examples: build/$(LIBRARY).a
 	@sh examples/check.sh build/$(LIBRARY).a
 
 # Under the emulator everything takes some twenty times as long: fewer networks there.
-outside: build/$(LIBRARY)/host build/$(LIBRARY)/arrivals
+outside: build/$(LIBRARY)/host build/$(LIBRARY)/arrivals build/plain-check
 	@$(DOOR_RUN) && \
+	$$run build/plain-check && \
 	if [ -n "$$run" ]; then part=1000 networks=4000 arrivals=20000; \
 	else part=10 networks=60000 arrivals=400000; fi; \
 	$$run build/$(LIBRARY)/host --seed $(SEED) --networks $$networks --small-part $$part && \

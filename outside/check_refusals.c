@@ -1,7 +1,7 @@
 /*
    Malformed calls: every refusal at several places, every pair of refusals (the
-   lowest number wins), random handfuls of them, and every byte or node number
-   that a table must not hold. The number that each fault must be refused by is
+   lowest number wins), random handfuls of them, every byte that a table must not
+   hold and the node numbers. The number that each fault must be refused by is
    written here a second time, beside brute force.
 */
 #include <inttypes.h>
@@ -255,56 +255,41 @@ static void random_handfuls(enum entry entry, struct dice *dice)
     }
 }
 
-/* Every byte and every node number that a table must not hold, and those next
-   to them that it may hold. */
-static void every_value(enum entry entry, struct dice *dice)
+static void compare_one(struct call *call, struct dice *dice)
 {
-    for (uint32_t byte = 0; byte <= 255; byte++)
-        for (size_t place = 0; place < TRANSISTORS; place++) {
-            struct call call = sound_call(entry);
-            uint32_t answer[4];
-            door_now_checking("refusals", ++tried, "");
-            network_random_work(&call, dice);
-            struct call kinds = call, states = call, types = call, changes = call;
-            uint8_t table[4][NODES];
-            memcpy(table[0], call.kinds.at, NODES);
-            memcpy(table[1], call.states.at, NODES);
-            memcpy(table[2], call.types.at, TRANSISTORS);
-            memcpy(table[3], call.change_states.at, CHANGES);
-            table[0][place] = table[1][place] = table[2][place] = (uint8_t)byte;
-            table[3][place % CHANGES] = (uint8_t)byte;
-            kinds.kinds.at = table[0];
-            door_compare(&kinds, answer);
-            memcpy(call.states.at, table[1], NODES);
-            door_compare(&states, answer);
-            network_states(&call, "01000");
-            types.types.at = table[2];
-            door_compare(&types, answer);
-            network_states(&call, "01000");
-            changes.change_states.at = table[3];
-            door_compare(&changes, answer);
-        }
+    uint32_t answer[4];
+    door_now_checking("refusals", ++tried, "");
+    door_lend_null(tried % 2);
+    network_random_work(call, dice);
+    door_compare(call, answer);
 }
 
-static void every_node_number(enum entry entry)
+/* Every byte at every place of every table of bytes. */
+static void every_byte(enum entry entry, struct dice *dice)
+{
+    static const size_t lengths[4] = {NODES, NODES, TRANSISTORS, CHANGES};
+    for (int table = 0; table < 4; table++)
+        for (size_t place = 0; place < lengths[table]; place++)
+            for (uint32_t byte = 0; byte <= 255; byte++) {
+                struct call call = sound_call(entry);
+                uint8_t *tables[4] = {call.kinds.at, call.states.at, call.types.at,
+                                      call.change_states.at};
+                tables[table][place] = (uint8_t)byte;
+                compare_one(&call, dice);
+            }
+}
+
+/* Node numbers in every table of node numbers: all near the bounds, and one in
+   thirty-seven of those between. */
+static void node_numbers(enum entry entry, struct dice *dice)
 {
     for (uint32_t number = 0; number <= 65535; number += number < 4200 || number > 65000 ? 1 : 37)
         for (int table = 0; table < 4; table++) {
-            if (table == 3 && !entry_takes_changes(entry))
-                continue;
-            struct call call = network_call(&storage, NODES, TRANSISTORS);
-            call.entry = entry;
-            network_states(&call, "01000");
-            network_change(&call, 1, LOW);
-            network_change(&call, 0, LOW);
-            uint16_t *cells[4] = {call.gates.at, call.sources.at, call.drains.at,
-                                  call.change_nodes.at};
-            uint32_t place = number % (table == 3 ? CHANGES : TRANSISTORS), answer[4];
-            uint16_t kept = cells[table][place];
-            cells[table][place] = (uint16_t)number;
-            door_now_checking("refusals", ++tried, "");
-            door_compare(&call, answer);
-            cells[table][place] = kept;
+            struct call call = sound_call(entry);
+            uint16_t *tables[4] = {call.gates.at, call.sources.at, call.drains.at,
+                                   call.change_nodes.at};
+            tables[table][number % (table == 3 ? CHANGES : TRANSISTORS)] = (uint16_t)number;
+            compare_one(&call, dice);
         }
 }
 
@@ -314,12 +299,8 @@ static void every_odd_length(enum entry entry, struct dice *dice)
     for (uint32_t table = 0; table < LENGTHS; table++)
         for (int k = 0; k < ODD_LENGTHS; k++) {
             struct call call = sound_call(entry);
-            uint32_t answer[4];
             *length(&call, table) = odd_lengths[k];
-            door_now_checking("refusals", ++tried, "");
-            door_lend_null(tried % 2);
-            network_random_work(&call, dice);
-            door_compare(&call, answer);
+            compare_one(&call, dice);
         }
 }
 
@@ -331,9 +312,8 @@ void check_refusals(const struct options *options)
         unseen_faults(entry, &dice);
         random_handfuls(entry, &dice);
         every_odd_length(entry, &dice);
-        every_value(entry, &dice);
-        sound_call(entry);
-        every_node_number(entry);
+        every_byte(entry, &dice);
+        node_numbers(entry, &dice);
     }
     printf("refusals: %" PRIu64 " malformed calls and their neighbours\n", tried);
 }
