@@ -11,8 +11,8 @@
 #
 # LIBRARY names the archive in build/ that is checked. The stand-in is one: LIBRARY=libstandin.
 
-RATTLE_HOME ?= /opt/rattle
-LIB_CRATE ?= twistdory_c
+RATTLE_HOME ?= $(shell dirname $$(dirname $$(readlink -f $$(command -v rt || echo /opt/rattle/bin/rt))))
+LIB_CRATE ?= door
 LIBRARY ?= libtwistdory
 SEED ?= 1
 NETWORKS ?= 1000000
@@ -35,7 +35,7 @@ DOOR_CRATES = $(wildcard crates.txt) $(shell find crates -name '*.rt' -o -name '
 
 build/libtwistdory.a: $(DOOR_CRATES)
 	@mkdir -p build
-	$(RATTLE_HOME)/bin/rt staticlib $(LIB_CRATE)
+	rt staticlib $(LIB_CRATE)
 	cp target/staticlib/lib$(LIB_CRATE).a $@
 
 # A stand-in over the plain C simulator: it tests the outside check, and nothing else uses it.
