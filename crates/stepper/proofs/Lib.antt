@@ -1,0 +1,3 @@
+-- What lies behind the functions of a step.
+pub mod Cells
+pub mod Lifts
