@@ -16,6 +16,7 @@ ghost use Rattle.stepper.specs.Start.{Bytes};
 
 pub mod relax;
 pub mod start;
+pub mod tables;
 
 // The one place that says which kinds are inputs.
 pub fn is_input(kind: u8) -> bool
@@ -38,13 +39,9 @@ pub fn evaluate(
     ensures { λ r. ⌜ Evaluated (netOf (now (kinds .entry)) (now (types .entry)) (now (gates .entry)) (now (sources .entry)) (now (drains .entry))) (now (states .entry)) (now (work .entry)) (now (work .exit)) ⌝ }
 {
     let n = kinds.len();
-    start::zero(work, 3 * n, n);
-    start::start_definite(kinds, work);
-    relax::relax(kinds, states, types, gates, sources, drains, work, 0, 3 * n, false);
-    start::start_against(kinds, states, work, n, 0);
-    relax::relax(kinds, states, types, gates, sources, drains, work, n, 0, true);
-    start::start_against(kinds, states, work, 2 * n, 1);
-    relax::relax(kinds, states, types, gates, sources, drains, work, 2 * n, 0, true);
+    tables::definite(kinds, states, types, gates, sources, drains, work);
+    tables::possible(kinds, states, types, gates, sources, drains, work, n, 0);
+    tables::possible(kinds, states, types, gates, sources, drains, work, 2 * n, 1);
     start::finish(kinds, states, work);
 }
 
