@@ -1,15 +1,15 @@
 -- Order-freedom of the step: networks that list the same transistors, in any order, each any number of times, source and drain either way round,
 -- take the same step on every state. Assumes nothing.
-use Prim.Native.Nat.{ℕ, zero, suc, min, _≤_, _<_}
+use Prim.Native.Nat.{ℕ, zero, suc, min, _<_}
 use native.Mathlib.Omega.{arith}
 use mathlib.Core.Path.{_≡_, refl, ap, ap₂, _∙_, sym, subst, fun-ext}
 use mathlib.Core.Logic.{_⊎_, inl, inr}
 use mathlib.Core.Bool.{Bool, true, false, cond}
 use mathlib.Core.List.{List, _∷_}
 use Rattle.model.specs.Places.{tab, at}
-use Rattle.model.specs.Net.{Net, nodes, transistors, isInput, Stand, opened, closed, stand, standAt, sourceState, new, step}
+use Rattle.model.specs.Net.{Net, nodes, transistors, isInput, Stand, stand, standAt, sourceState, new, step}
 use Rattle.model.specs.Alike.{Copy, Held, Alike}
-use Rattle.model.specs.Ways.{Frame, Lawful, Inside, Joins, Way, source, pass, Definite, Unblocked, From}
+use Rattle.model.specs.Ways.{Frame, Lawful, Joins, Way, source, pass, Definite, Unblocked, From}
 use Rattle.model.specs.Tables.{fresh}
 use Rattle.model.specs.RuleOne.{frame}
 use Rattle.model.proofs.Agreed.{agreed-cong}

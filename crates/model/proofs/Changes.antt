@@ -1,23 +1,22 @@
 -- What entering a change list does: the named nodes take their new states, the others keep theirs, and the order of the list shows nowhere.
 -- Assumes nothing.
-use Prim.Native.Nat.{ℕ, zero, suc, _≤_, _<_}
+use Prim.Native.Nat.{ℕ, zero, suc, _<_}
 use native.Mathlib.Nat.{not-suc-le-zero, le-of-suc-le-suc}
 use native.Mathlib.Omega.{arith}
 use mathlib.Core.Path.{_≡_, refl, ap, _∙_, sym}
-use mathlib.Core.Logic.{_⊎_, inl, inr}
-use mathlib.Core.Bool.{Bool, true, false, not, true≢false, false≢true}
+use mathlib.Core.Logic.{inl, inr}
+use mathlib.Core.Bool.{Bool, true, false, true≢false, false≢true}
 use mathlib.Core.List.{List, [], _∷_}
 use lib.ListN.{length, set, length-set}
 use lib.Seq.{ext-getD, getD-set-same}
 use lib.Dec.{eqb}
-use borrow.Author.Tests.{eqb-true, eqb-false, ltb-true, ltb-false, not-false, ne-eqb, eq-eqb}
-use Rattle.model.specs.Bounds.{highestState}
+use borrow.Author.Tests.{eqb-true, ltb-true, ltb-false, not-false, eq-eqb}
 use Rattle.model.specs.Places.{at, some, any}
 use Rattle.model.specs.Net.{Net, nodes, isInput}
 use Rattle.model.specs.Run.{Changes, put, entered}
-use Rattle.model.specs.Rules.{changeRule, changeTests}
+use Rattle.model.specs.Rules.{changeTests}
 use Rattle.model.specs.Alike.{Listed}
-use Rattle.model.specs.Demands.{Clean, Enterable}
+use Rattle.model.specs.Demands.{Enterable}
 use Rattle.model.proofs.Places.{some-of, some-at}
 use Rattle.model.proofs.Judged.{any-none}
 use Rattle.model.proofs.Cover.{set-at}

@@ -4,25 +4,16 @@ use Prim.Native.Nat.{ℕ, zero, suc, _≤_, _<_}
 use native.Mathlib.Omega.{arith}
 use mathlib.Core.Path.{_≡_, refl, ap, _∙_, sym}
 use mathlib.Core.Logic.{_⊎_, inl, inr}
-use mathlib.Core.Bool.{Bool, true, false, not, _&&_, false≢true, true≢false, and-eq-true-iff}
+use mathlib.Core.Bool.{Bool, true, false, not, _&&_, and-eq-true-iff}
 use mathlib.Core.List.{List, [], _∷_}
-use lib.ListN.{length, set, getD, List·getD-eq-default, length-set}
-use lib.Seq.{getD-set-same, getD-set-other}
+use lib.ListN.{length, set, List·getD-eq-default, length-set}
 use lib.Dec.{eqb, ltb}
-use borrow.Author.Tests.{eqb-true, eqb-false, eq-eqb, ne-eqb, ltb-true, ltb-false, not-true, not-false}
+use borrow.Author.Tests.{eqb-true, eqb-false, eq-eqb, ne-eqb, ltb-true, ltb-false, not-true}
 use Rattle.model.specs.Places.{at, iter, count}
 use Rattle.model.specs.Order.{_⊑_, _≼_}
 use Rattle.model.specs.Cover.{Stepper, May, stays, arrives, follows, Reach, begin, move, OneByOne, start, arrive, follow}
 use Rattle.model.specs.Demands.{freeNodes}
-use Rattle.model.proofs.Descent.{count-le, count-lt, Differ, equal-or-differ, iter-fixed, iter-keeps, Still, descent}
-
-pub ⊑-refl : (a : ℕ) → a ⊑ a
-⊑-refl a = inl refl
-
-pub ⊑-trans : (a b c : ℕ) → a ⊑ b → b ⊑ c → a ⊑ c
-⊑-trans a b c h (inr e) = inr e
-⊑-trans a b c (inl d) (inl e) = inl (d ∙ e)
-⊑-trans a b c (inr d) (inl e) = inr (sym e ∙ d)
+use Rattle.model.proofs.Descent.{count-le, count-lt, Differ, equal-or-differ, iter-fixed, Still, descent}
 
 -- a cell that rises was no X, and is X
 rises : (a b : ℕ) → a ⊑ b → (a ≡ b → ⊥) → (a ≡ 2 → ⊥) × (b ≡ 2)

@@ -1,22 +1,22 @@
 -- The demands, as statements about the entries under rule one. Each says which sentence it answers. Assumes nothing.
 use Prim.Native.Nat.{ℕ, _≤_, _<_}
 use native.Mathlib.Omega.{arith}
-use mathlib.Core.Path.{_≡_, refl, ap, _∙_, sym, subst}
-use mathlib.Core.Bool.{Bool, true, false}
-use mathlib.Core.Logic.{_⊎_, inl, inr, _↔_}
+use mathlib.Core.Path.{_≡_, refl, ap, sym, subst}
+use mathlib.Core.Bool.{true}
+use mathlib.Core.Logic.{_⊎_, inl}
 use mathlib.Core.List.{List, [], _∷_, _++_}
 use lib.ListN.{length}
-use lib.Dec.{eqb, ltb}
+use lib.Dec.{eqb}
 use borrow.Author.Tests.{eqb-true, not-false}
-use Rattle.model.specs.Places.{tab, iter, first, at}
-use Rattle.model.specs.Net.{Net, nodes, isInput, stands, joined, setState, step}
+use Rattle.model.specs.Places.{tab, iter, at}
+use Rattle.model.specs.Net.{Net, nodes, isInput, step}
 use Rattle.model.specs.Run.{Changes, entered, changed, limitOf, unitSteps, firstHalf, secondHalf}
 use Rattle.model.specs.Answer.{number, firstCount, secondCount}
-use Rattle.model.specs.Rules.{Rule, judge, given, cells, startRule, checkRules, resetRules, stepSizes, stepRules, runSizes, runRules, unitRules, ternaryRules, changeTests}
+use Rattle.model.specs.Rules.{Rule, judge, given, cells, startRule, checkRules, resetRules, stepSizes, stepRules, runSizes, runRules, unitRules, ternaryRules}
 use Rattle.model.specs.Entries.{Outcome, untouched, altered, cleared, ranAnswer, checkAnswer, resetOutcome, stepOutcome, unitOutcome, ternaryOutcome}
 use Rattle.model.specs.Order.{_≼_}
-use Rattle.model.specs.Cover.{Reach, OneByOne}
-use Rattle.model.specs.Demands.{Clean, Told, Lowest, Enterable, Settles, Unsettled, Covered, Choice}
+use Rattle.model.specs.Cover.{OneByOne}
+use Rattle.model.specs.Demands.{Clean, Told, Lowest, Enterable, Settles, Unsettled, Covered}
 use Rattle.model.specs.declared.Answer.{Answer}
 use Rattle.model.specs.declared.Answer.the-variants.{Done, Oscillates}
 use Rattle.model.specs.declared.Verdict.{Verdict}
@@ -26,7 +26,7 @@ use Rattle.model.proofs.Judged.{Numbered, any-none, judged-lowest, judg
 use Rattle.model.proofs.Cover.{one-reach}
 use Rattle.model.proofs.Changes.{clean-changes}
 use Rattle.model.proofs.RuleOne.{stepper}
-use Rattle.model.proofs.Outcomes.{told, by-verdict, step-refused, step-done, unit-refused, unit-ran, unit-done, unit-oscillates, ternary-refused, ternary-start, ternary-ran, ternary-done, ternary-done-when, ternary-above}
+use Rattle.model.proofs.Outcomes.{told, by-verdict, step-refused, step-done, unit-refused, unit-ran, unit-done, unit-oscillates, unit-done-when, unit-oscillates-when, ternary-refused, ternary-start, ternary-ran, ternary-done, ternary-done-when, ternary-start-when, ternary-above}
 
 -- the answer of what is judged is what judging the answers gives
 answer-of : (rs : List Rule) (refuse : Answer → Outcome) (accept : Outcome) → ((a : Answer) → refuse a .answer ≡ a) → given (judge rs) refuse accept .answer ≡ given (judge rs) (λ a. a) (accept .answer)
@@ -48,7 +48,7 @@ module _ (net : Net) where
 
 -- Reset
 module _ (kinds s : List ℕ) where
-  abbrev resetDone : Outcome
+  abbrev pub resetDone : Outcome
   resetDone = record { answer = Done 0 0; states = tab (length s) (λ v. 2); work = [] }
 
   pub reset-told : Told (resetRules kinds s) (untouched s []) resetDone (resetOutcome kinds s)
@@ -62,7 +62,7 @@ module _ (kinds s : List ℕ) where
 
 -- Step
 module _ (net : Net) (s w : List ℕ) where
-  abbrev stepDone : Outcome
+  abbrev pub stepDone : Outcome
   stepDone = record { answer = Done (altered s (step net s)) 0; states = step net s; work = cleared (cells net) w }
 
   step-numbered : Numbered 7 (stepRules net s w)
@@ -90,7 +90,7 @@ module _ (net : Net) (s w : List ℕ) where
 
 -- Unit run
 module _ (net : Net) (s : List ℕ) (ch : Changes) (limit : ℕ) (w : List ℕ) where
-  abbrev unitEnd : Outcome
+  abbrev pub unitEnd : Outcome
   unitEnd = record { answer = ranAnswer (unitSteps (step net) s ch limit) (limitOf limit); states = (unitSteps (step net) s ch limit) .states; work = cleared (cells net) w }
 
   unit-numbered : Numbered 7 (unitRules net s ch limit w)
@@ -132,9 +132,20 @@ module _ (net : Net) (s : List ℕ) (ch : Changes) (limit : ℕ) (w : List ℕ) 
   unfolding unitOutcome
   unit-runs = unit-ran (unitRules net s ch limit w) unit-numbered (step net) (cells net) s ch limit w
 
+  -- DONE exactly where some number of steps up to the limit settles, OSCILLATES exactly where none does
+  pub unit-settles-when : Clean (unitRules net s ch limit w) → (k : ℕ) → k ≤ limitOf limit → step net (iter k (step net) (entered s ch)) ≡ iter k (step net) (entered s ch)
+      → number (unitOutcome net s ch limit w .answer) ≡ 0
+  unfolding unitOutcome
+  unit-settles-when = unit-done-when (unitRules net s ch limit w) unit-numbered (step net) (cells net) s ch limit w
+
+  pub unit-at-limit-when : Clean (unitRules net s ch limit w)
+      → ((k : ℕ) → k ≤ limitOf limit → step net (iter k (step net) (entered s ch)) ≡ iter k (step net) (entered s ch) → ⊥) → number (unitOutcome net s ch limit w .answer) ≡ 8
+  unfolding unitOutcome
+  unit-at-limit-when = unit-oscillates-when (unitRules net s ch limit w) unit-numbered (step net) (cells net) s ch limit w
+
 -- Ternary run
 module _ (net : Net) (s : List ℕ) (ch : Changes) (w : List ℕ) where
-  abbrev ternaryEnd : Outcome
+  abbrev pub ternaryEnd : Outcome
   ternaryEnd =
       record {
         answer = Done ((firstHalf (nodes net) (step net) s ch) .count) ((secondHalf (nodes net) (step net) s ch) .count);
@@ -212,6 +223,11 @@ module _ (net : Net) (s : List ℕ) (ch : Changes) (w : List ℕ) where
   pub ternary-ends : Clean (ternaryRules net s ch w) → step net s ≡ s → ternaryOutcome net s ch w ≡ ternaryEnd
   unfolding ternaryOutcome
   ternary-ends = ternary-done-when (ternaryRules net s ch w) ternary-numbered (nodes net) (isInput net) (step net) (cells net) s ch w
+
+  -- and START exactly where it is not settled
+  pub ternary-unsettled-when : Clean (ternaryRules net s ch w) → (step net s ≡ s → ⊥) → number (ternaryOutcome net s ch w .answer) ≡ 7
+  unfolding ternaryOutcome
+  ternary-unsettled-when = ternary-start-when (ternaryRules net s ch w) ternary-numbered (nodes net) (isInput net) (step net) (cells net) s ch w
 
   -- a unit run from a settled start that ends DONE: the ternary run ends DONE too, and covers it
   pub unit-below : (limit : ℕ) → step net s ≡ s → number (unitOutcome net s ch limit w .answer) ≡ 0

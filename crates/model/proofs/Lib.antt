@@ -15,3 +15,4 @@ pub mod Changes
 pub mod Outcomes
 pub mod Demands
 pub mod Alike
+pub mod OrderFree

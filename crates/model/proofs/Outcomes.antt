@@ -1,14 +1,13 @@
 -- What the outcome of a step, a unit run and a ternary run promises, under any rules and of any step: a refusal touches nothing; counts are the least;
 -- the end is settled, or that of exactly the limit's steps; a ternary end covers. Assumes nothing.
-use Prim.Native.Nat.{ℕ, zero, suc, _≤_, _<_}
+use Prim.Native.Nat.{ℕ, _≤_, _<_}
 use native.Mathlib.Omega.{arith}
-use mathlib.Core.Path.{_≡_, refl, ap, _∙_, sym, subst}
+use mathlib.Core.Path.{_≡_, refl, ap, _∙_}
 use mathlib.Core.Logic.{_⊎_, inl, inr}
 use mathlib.Core.Bool.{Bool, true, false, not, cond}
-use mathlib.Core.List.{List, [], _∷_, _++_}
+use mathlib.Core.List.{List, [], _∷_}
 use lib.ListN.{length}
-use lib.Dec.{eqb, ltb}
-use borrow.Author.Tests.{eqb-true, not-false, not-true, lt-ltb, le-ltb}
+use borrow.Author.Tests.{not-false, not-true, lt-ltb, le-ltb}
 use Rattle.model.specs.Places.{iter, same, at}
 use Rattle.model.specs.Run.{Changes, Ran, entered, settled, limitOf, unitSteps, firstHalf, secondHalf}
 use Rattle.model.specs.Answer.{number, firstCount, secondCount}

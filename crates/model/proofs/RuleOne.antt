@@ -1,28 +1,28 @@
 -- Rule one's step by all choices is its step by ways, and so the laws of runs apply to it. Assumes nothing.
 use Prim.Native.Nat.{ℕ, zero, suc, min, _≤_, _<_}
-use native.Mathlib.Nat.{not-suc-le-zero, le-of-suc-le-suc}
+use native.Mathlib.Nat.{not-suc-le-zero}
 use native.Mathlib.Omega.{arith}
 use mathlib.Core.Path.{_≡_, refl, ap, _∙_, sym, subst}
 use mathlib.Core.Logic.{_⊎_, inl, inr, _↔_}
 use mathlib.Core.Bool.{Bool, true, false, cond, _&&_, true≢false, false≢true, and-eq-true-iff}
-use mathlib.Core.List.{List, [], _∷_}
+use mathlib.Core.List.{List}
 use lib.ListN.{length, getD}
 use lib.Seq.{ext-getD}
 use lib.Dec.{eqb, leb}
 use borrow.Author.Tests.{eqb-true, eq-eqb, leb-true, le-leb}
 use Rattle.model.specs.Places.{tab, at, every, most, imp}
-use Rattle.model.specs.Net.{Net, nodes, transistors, isInput, isPullup, Stand, opened, closed, unknown, stands, standAt, everyChoice, linked, joined, strength, sourceState, agreed, setState, new, step}
+use Rattle.model.specs.Net.{Net, nodes, transistors, isInput, isPullup, Stand, opened, closed, unknown, stands, standAt, everyChoice, linked, joined, strength, sourceState, setState, new, step}
 use Rattle.model.specs.Order.{_⊑_, _≼_}
 use Rattle.model.specs.Cover.{Stepper}
 use Rattle.model.specs.Demands.{Fits, Choice}
-use Rattle.model.specs.Ways.{Frame, Lawful, Inside, Joins, Way, source, pass, Definite, Unblocked, From, choose}
+use Rattle.model.specs.Ways.{Frame, Lawful, Joins, Way, source, pass, Definite, Unblocked, From, choose}
 use Rattle.model.specs.Tables.{StepTables, byTables, definite, fresh, stepBy}
 use Rattle.model.specs.RuleOne.{ownStrength, frame, quickStep}
 use Rattle.model.proofs.Places.{length-tab, getD-tab, every-at, every-of, most-of, most-at, imp-of, imp-at}
 use Rattle.model.proofs.Choices.{everyChoice-at, everyChoice-of, Within, choice-tab, choice-at, stand-mono}
-use Rattle.model.proofs.Joined.{_∈_, member-below, Ends, Link, linked-at, linked-of, Walk, here, more, joined-walk, walk-joined}
+use Rattle.model.proofs.Joined.{_∈_, Ends, Link, linked-at, linked-of, Walk, here, more, joined-walk, walk-joined}
 use Rattle.model.proofs.Agreed.{agreed-cong, agreed-known}
-use Rattle.model.proofs.Ways.{way-map, way-below, way-fine, way-input, way-start, way-top, way-pos, definite-most, definite-way, unblocked-open, none, none-from, from-none, fresh-says, from-down, tables-fresh, stepBy-at, stepBy-length, scheme-stepper}
+use Rattle.model.proofs.Ways.{way-map, way-below, way-fine, way-input, way-start, way-top, definite-most, definite-way, none, none-from, from-none, fresh-says, from-down, tables-fresh, stepBy-at, stepBy-length, scheme-stepper}
 
 -- the choice c as how the transistors stand
 abbrev set-by : Bool → Stand

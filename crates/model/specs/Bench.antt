@@ -4,7 +4,7 @@ use mathlib.Core.Path.{_≡_, refl}
 use mathlib.Core.List.{List, [], _∷_, _++_}
 use Rattle.model.specs.Places.{tab}
 use Rattle.model.specs.Net.{Net, stands, linked, spread, joined, strength, setState, new, step}
-use Rattle.model.specs.Run.{Changes, raised, lowered, unitSteps, firstHalf, secondHalf}
+use Rattle.model.specs.Run.{raised, lowered, unitSteps, firstHalf, secondHalf}
 use Rattle.model.specs.Answer.{row}
 use Rattle.model.specs.Rules.{wireTests, changeTests, stepSizes, runSizes, runRules, unitRules, ternaryRules}
 use Rattle.model.specs.Entries.{Outcome, altered, cleared, unitOutcome, ternaryOutcome}

@@ -8,7 +8,7 @@ use lib.ListN.{length}
 use Rattle.model.specs.Bounds.{highestState}
 use Rattle.model.specs.Places.{iter, at, count}
 use Rattle.model.specs.Net.{Stand, opened, closed, unknown}
-use Rattle.model.specs.Run.{Changes, entered, changed, raised, lowered}
+use Rattle.model.specs.Run.{Changes, changed, raised, lowered}
 use Rattle.model.specs.Answer.{number}
 use Rattle.model.specs.Rules.{Rule}
 use Rattle.model.specs.Order.{_≼_}

@@ -25,6 +25,10 @@ bare kinds t = record { kinds = kinds; types = many t 2; gates = many t 0; sourc
 abbrev one : ℕ → ℕ → ℕ → ℕ → ℕ → Net
 one kind type gate source drain = record { kinds = 2 ∷ kind ∷ 0 ∷ []; types = type ∷ []; gates = gate ∷ []; sources = source ∷ []; drains = drain ∷ [] }
 
+-- two inverters in a row: 0 I, 1 I, 2 P, 3 P; n(1; 0, 2), n(2; 0, 3)
+abbrev TWO : Net
+TWO = record { kinds = 2 ∷ 2 ∷ 1 ∷ 1 ∷ []; types = 0 ∷ 0 ∷ []; gates = 1 ∷ 2 ∷ []; sources = 0 ∷ 0 ∷ []; drains = 2 ∷ 3 ∷ [] }
+
 abbrev changes : List ℕ → List ℕ → Changes
 changes ps vs = record { places = ps; values = vs }
 
@@ -75,6 +79,9 @@ seen =
     -- both ends one node, both ends inputs: no effect
     ∷ line (stepOutcome (one 0 2 2 1 1) (1 ∷ 0 ∷ 1 ∷ []) (many 14 9))
     ∷ line (stepOutcome (one 2 2 2 0 1) (1 ∷ 0 ∷ 1 ∷ []) (many 14 9))
+    -- the second inverter reads what the first had before the step
+    ∷ line (stepOutcome TWO (0 ∷ 1 ∷ 1 ∷ 0 ∷ []) (many 20 9))
+    ∷ line (unitOutcome TWO (0 ∷ 1 ∷ 1 ∷ 0 ∷ []) (changes [] []) 0 (many 20 9))
     -- the work area exact, and one cell less; a state above X; what is left in the area
     ∷ line (stepOutcome INV (0 ∷ 1 ∷ 1 ∷ []) (many 14 9))
     ∷ line (stepOutcome INV (0 ∷ 1 ∷ 1 ∷ []) (many 13 9))
@@ -126,6 +133,8 @@ seenSo =
     ∷ (0 ∷ 0 ∷ 1 ∷ 0 ∷ 1 ∷ 2 ∷ 2 ∷ [])
     ∷ (0 ∷ 0 ∷ 0 ∷ 0 ∷ 1 ∷ 0 ∷ 1 ∷ [])
     ∷ (0 ∷ 0 ∷ 0 ∷ 0 ∷ 1 ∷ 0 ∷ 1 ∷ [])
+    ∷ (0 ∷ 0 ∷ 1 ∷ 0 ∷ 0 ∷ 1 ∷ 0 ∷ 0 ∷ [])
+    ∷ (0 ∷ 0 ∷ 2 ∷ 0 ∷ 0 ∷ 1 ∷ 0 ∷ 1 ∷ [])
     ∷ (0 ∷ 0 ∷ 1 ∷ 0 ∷ 0 ∷ 1 ∷ 0 ∷ [])
     ∷ (1 ∷ 0 ∷ 0 ∷ 0 ∷ 0 ∷ 1 ∷ 1 ∷ [])
     ∷ (5 ∷ 2 ∷ 0 ∷ 0 ∷ 0 ∷ 1 ∷ 3 ∷ [])

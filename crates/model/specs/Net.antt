@@ -4,7 +4,7 @@ use mathlib.Core.Bool.{Bool, true, false, not, cond, _&&_, _||_}
 use mathlib.Core.List.{List, [], _∷_}
 use lib.ListN.{length, getD}
 use lib.Dec.{eqb}
-use Rattle.model.specs.Places.{tab, iter, every, some, most, imp, at, same}
+use Rattle.model.specs.Places.{tab, iter, every, some, most, imp, at}
 
 -- the tables: a kind for each node; a type, a gate, a source and a drain for each transistor
 pub record Net : Type 0 where
