@@ -1,10 +1,11 @@
 -- From what the parts of a step leave in the work area to its three tables, and by these to the step. Assumes nothing.
-use Prim.Native.Nat.{ℕ, _+_, _*_, _≤_, _<_}
+use Prim.Native.Nat.{ℕ, _*_, _≤_, _<_}
 use native.Mathlib.Omega.{arith}
 use native.Mathlib.Nat.{zero-add}
 use mathlib.Core.Path.{_≡_, refl, sym, _∙_}
 use mathlib.Core.Bool.{Bool, true, false}
 use mathlib.Core.List.{List}
+use lib.ListN.{length}
 use Rattle.model.specs.Places.{at}
 use Rattle.model.specs.Net.{Net, nodes, standAt, sourceState}
 use Rattle.model.specs.Ways.{Frame}
@@ -63,5 +64,16 @@ module _ (net : Net) (s : List ℕ) where
       after = λ k l. f .after k (omega arith) ∙ p₁ .after k (omega arith) ∙ p₀ .after k (omega arith) ∙ d .after k l;
     }
 
-pub checked-room : {net : Net} {s : List ℕ} {room room′ : ℕ} → Checked net s room → room′ ≡ room → Checked net s room′
-checked-room c e = rw e c
+-- a checked network stays so under other states, and in a work area of the same length
+pub checked-with : {net : Net} {s s′ : List ℕ} {room room′ : ℕ} → Checked net s room → length s′ ≡ length s → room′ ≡ room → Checked net s′ room′
+checked-with c e r = record {
+  states = e ∙ c .states;
+  gates = c .gates;
+  sources = c .sources;
+  drains = c .drains;
+  wired = c .wired;
+  kinds = c .kinds;
+  few-nodes = c .few-nodes;
+  few-transistors = c .few-transistors;
+  fits = rw r (c .fits);
+}

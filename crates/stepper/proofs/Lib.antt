@@ -2,3 +2,4 @@
 pub mod Cells
 pub mod Lifts
 pub mod Least
+pub mod Next

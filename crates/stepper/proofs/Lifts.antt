@@ -1,5 +1,5 @@
 -- Lifts along transistors: how they are joined, what they leave, and that they come to an end. Assumes nothing.
-use Prim.Native.Nat.{ℕ, zero, suc, min, _+_, _*_, _-_, _≤_, _<_}
+use Prim.Native.Nat.{ℕ, zero, suc, min, _+_, _-_, _≤_, _<_}
 use native.Mathlib.Omega.{arith}
 use native.Mathlib.Nat.{add-zero, add-suc, le-refl, le-of-suc-le-suc, eq-or-lt-of-le}
 use mathlib.Core.Path.{_≡_, refl, sym, ap, _∙_, subst}
@@ -10,9 +10,9 @@ use lib.ListN.{length, set, length-set}
 use lib.Seq.{getD-set-same, getD-set-other}
 use borrow.Author.Count.{below-more}
 use Rattle.model.specs.Places.{at}
-use Rattle.model.specs.Ways.{Frame, Inside, Joins}
-use Rattle.model.specs.Tables.{Came, began, over, Least}
-use Rattle.stepper.specs.Relax.{cell, Flow, Pulled, still, moved, Lift, Lifts, none, lift, Shut, Still, Tried, Swept, Relaxed}
+use Rattle.model.specs.Ways.{Inside}
+use Rattle.model.specs.Tables.{Came, began, over}
+use Rattle.stepper.specs.Relax.{cell, Flow, Pulled, still, moved, Lift, Lifts, none, lift, Still, Tried, Swept, Relaxed}
 use Rattle.stepper.proofs.Cells.{Stored, here, else, stored}
 
 pub pulled-few : {input : ℕ → Bool} {table floor ceiling a b : ℕ} {w u : List ℕ} {r : ℕ} → Pulled input table floor ceiling a b w u r → r ≤ 1

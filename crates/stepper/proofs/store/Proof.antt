@@ -1,17 +1,15 @@
 -- `stepper::store` meets its contract: the nodes passed have their next states. Assumes nothing.
-use Rattle.model.specs.Places.{at, count}
-use Prim.Native.Nat.{ℕ, _+_, _-_, _*_, _≤_, _<_}
-use mathlib.Core.Path.{_≡_, refl, sym, ap, ap₂, _∙_}
-use lib.ListN.{length, set, length-set}
+use Rattle.model.specs.Places.{at}
+use Prim.Native.Nat.{_-_, _≤_}
+use mathlib.Core.Path.{_≡_, refl, _∙_}
+use lib.ListN.{length, length-set}
 use native.Mathlib.Nat.{le-antisymm}
-use Rattle.stepper.specs.Start.{Written, Bytes, alone, own, begins, next}
-use Rattle.stepper.proofs.Cells.{written-none, written-more, written-end, written-all, bytes-more, count-more}
+use Rattle.stepper.specs.Start.{Written}
+use Rattle.stepper.proofs.Cells.{written-none, written-more, written-end, written-all}
 use borrow.Author.Needs.{needs}
 use native.Mathlib.Omega.{arith}
 use Rattle.stepper.proofs.store.Statement.{statement}
 use Rattle.stepper.proofs.store.Tie as tie
-use Rattle.stepper.proofs.store.Reads as reads
-use Rattle.stepper.proofs.store.Lts as lts
 
 abbrev Inv-loop : tie.InvT-loop
 Inv-loop states₀ work v₀ states v = (v ≤ length states) × (length states ≡ length states₀) × Written (at work) states₀ 0 v states
@@ -19,43 +17,33 @@ Inv-loop states₀ work v₀ states v = (v ≤ length states) × (length states 
 abbrev μ-loop : tie.MeasureT-loop
 μ-loop states₀ work v₀ states v = length states - v
 
--- src/lib.rt:81:5
 loop-holds : tie.Need-loop-holds Inv-loop μ-loop
 loop-holds c = (omega arith, refl, written-none _ _ _)
 
--- src/lib.rt:82:21
 mul-states : tie.Need-mul-states Inv-loop μ-loop
 mul-states c = search needs
 
--- src/lib.rt:82:21
 shared-slice-read-states : tie.Need-shared-slice-read-states Inv-loop μ-loop
 shared-slice-read-states c = omega (arith, c .before .before .before .pre .0, c .before .before .loop .inv .1)
 
--- src/lib.rt:82:21
 cast-states : tie.Need-cast-states Inv-loop μ-loop
 cast-states c = omega (arith, c .before .before .before .pre .1 (c .before .before .loop .v) (omega (arith, c .before .before .loop .inv .1)))
 
--- src/lib.rt:82:9
 slice-write-states : tie.Need-slice-write-states Inv-loop μ-loop
 slice-write-states c = search needs
 
--- src/lib.rt:83:9
 add-v : tie.Need-add-v Inv-loop μ-loop
 add-v c = search needs
 
--- src/lib.rt:81:5
 loop-less : tie.Need-loop-less Inv-loop μ-loop
 loop-less c = simp length-set (omega (arith, c .before .loop-test .taken))
 
--- src/lib.rt:81:5
 loop-again : tie.Need-loop-again Inv-loop μ-loop
 loop-again c = (simp length-set (omega (arith, c .before .loop-test .taken)), simp length-set (c .before .before .loop .inv .1), written-more _ (omega arith) (omega arith) refl (c .before .before .loop .inv .2))
 
--- src/lib.rt:76:1
 same-length : tie.Need-same-length Inv-loop μ-loop
 same-length c = c .before .loop .inv .1
 
--- src/lib.rt:76:1
 returns : tie.Need-returns Inv-loop μ-loop
 returns c = written-all (c .before .loop .inv .1) (written-end (le-antisymm (c .before .loop .inv .0) (c .loop-test .left) ∙ c .before .loop .inv .1) (c .before .loop .inv .2))
 

@@ -5,12 +5,9 @@ use mathlib.Core.Bool.{Bool, true, not}
 use lib.Dec.{eqb}
 use Rattle.model.specs.Net.{stand}
 use Rattle.model.specs.Ways.{choose}
-use borrow.Author.Needs.{needs}
 use native.Mathlib.Omega.{arith}
 use Rattle.stepper.proofs.relax.conducts.Statement.{statement}
 use Rattle.stepper.proofs.relax.conducts.Tie as tie
-use Rattle.stepper.proofs.relax.conducts.Reads as reads
-use Rattle.stepper.proofs.relax.conducts.Lts as lts
 
 of-d : (type gate : ℕ) (b : Bool) → 1 < type → true ≡ choose (stand type gate) b
 of-d zero gate b h = absurd (omega arith)
@@ -33,15 +30,12 @@ of-np zero (suc (suc gate)) b h g = absurd (omega arith)
 of-np (suc zero) (suc (suc gate)) b h g = absurd (omega arith)
 of-np (suc (suc type)) gate b h g = absurd (omega arith)
 
--- src/relax.rt:19:9
 returns : tie.Need-returns
 returns c = of-d _ _ _ (c .if1 .taken)
 
--- src/relax.rt:22:9
 returns-2 : tie.Need-returns-2
 returns-2 c = of-x _ _ _ (c .before .if1 .left) (c .if2 .taken)
 
--- src/relax.rt:15:1
 returns-3 : tie.Need-returns-3
 returns-3 c = of-np _ _ _ (c .before .if1 .left) (c .if2 .left)
 

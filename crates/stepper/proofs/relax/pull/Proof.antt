@@ -6,88 +6,64 @@ use native.Mathlib.Omega.{arith}
 use borrow.Author.Needs.{needs}
 use Rattle.stepper.proofs.relax.pull.Statement.{statement}
 use Rattle.stepper.proofs.relax.pull.Tie as tie
-use Rattle.stepper.proofs.relax.pull.Reads as reads
-use Rattle.stepper.proofs.relax.pull.Lts as lts
-use Rattle.stepper.proofs.is_input.Reads as is-input-reads
-use Rattle.stepper.proofs.relax.lesser.Reads as lesser-reads
 
--- src/relax.rt:50:24
 shared-slice-read-is-input : tie.Need-shared-slice-read-is-input
 shared-slice-read-is-input c = search needs
 
--- src/relax.rt:50:8
 is-input-requires : tie.Need-is-input-requires
 is-input-requires c κs = search needs
 
--- src/relax.rt:51:9
 returns : tie.Need-returns
 returns c = still (λ f h. absurd (true≢false (sym (c .if1 .taken) ∙ c .before .is-input .ensures ∙ f)))
 
--- src/relax.rt:53:25
 add-lesser : tie.Need-add-lesser
 add-lesser c = search needs
 
--- src/relax.rt:53:20
 mul-lesser : tie.Need-mul-lesser
 mul-lesser c = search needs
 
--- src/relax.rt:53:20
 slice-read-lesser : tie.Need-slice-read-lesser
 slice-read-lesser c = search needs
 
--- src/relax.rt:53:9
 lesser-requires : tie.Need-lesser-requires
 lesser-requires c κs = search needs
 
--- src/relax.rt:54:18
 add-if2 : tie.Need-add-if2
 add-if2 c = search needs
 
--- src/relax.rt:54:13
 mul-if2 : tie.Need-mul-if2
 mul-if2 c = search needs
 
--- src/relax.rt:54:13
 slice-read-if2 : tie.Need-slice-read-if2
 slice-read-if2 c = search needs
 
--- src/relax.rt:55:9
 returns-2 : tie.Need-returns-2
 returns-2 c = still (λ f h. omega (arith, c .before .before .lesser .ensures))
 
--- src/relax.rt:57:17
 add-if3 : tie.Need-add-if3
 add-if3 c = search needs
 
--- src/relax.rt:57:12
 mul-if3 : tie.Need-mul-if3
 mul-if3 c = search needs
 
--- src/relax.rt:57:12
 slice-read-if3 : tie.Need-slice-read-if3
 slice-read-if3 c = search needs
 
--- src/relax.rt:58:9
 returns-3 : tie.Need-returns-3
 returns-3 c = still (λ f h. absurd (omega (arith, c .before .before .before .before .lesser .ensures)))
 
--- src/relax.rt:60:10
 add-work : tie.Need-add-work
 add-work c = search needs
 
--- src/relax.rt:60:5
 mul-work : tie.Need-mul-work
 mul-work c = search needs
 
--- src/relax.rt:60:5
 slice-write-work : tie.Need-slice-write-work
 slice-write-work c = search needs
 
--- src/relax.rt:38:1
 same-length : tie.Need-same-length
 same-length c = search needs
 
--- src/relax.rt:38:1
 returns-4 : tie.Need-returns-4
 returns-4 c = moved (sym (c .before .before .before .before .before .before .before .is-input .ensures) ∙ c .before .before .before .before .before .before .if1 .left) (c .before .before .before .before .lesser .ensures) (omega arith) (omega arith) (omega arith)
 

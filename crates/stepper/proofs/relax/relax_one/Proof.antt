@@ -5,80 +5,58 @@ use native.Mathlib.Omega.{arith}
 use borrow.Author.Needs.{needs}
 use Rattle.stepper.proofs.relax.relax_one.Statement.{statement}
 use Rattle.stepper.proofs.relax.relax_one.Tie as tie
-use Rattle.stepper.proofs.relax.relax_one.Reads as reads
-use Rattle.stepper.proofs.relax.relax_one.Lts as lts
-use Rattle.stepper.proofs.relax.conducts.Reads as conducts-reads
-use Rattle.stepper.proofs.relax.pull.Reads as pull-reads
 
--- src/relax.rt:81:16
 mul-gate : tie.Need-mul-gate
 mul-gate c = search needs
 
--- src/relax.rt:81:16
 shared-slice-read-gate : tie.Need-shared-slice-read-gate
 shared-slice-read-gate c = search needs
 
--- src/relax.rt:81:16
 cast-gate : tie.Need-cast-gate
 cast-gate c = omega (arith, c .shared-slice-known7 .given (c .before .before .before .before .before .before .before .before .args .t))
 
--- src/relax.rt:82:17
 shared-slice-read-conducts : tie.Need-shared-slice-read-conducts
 shared-slice-read-conducts c = search needs
 
--- src/relax.rt:82:27
 shared-slice-read-conducts-2 : tie.Need-shared-slice-read-conducts-2
 shared-slice-read-conducts-2 c = omega (arith, c .before .before .before .before .before .before .before .before .before .before .pre .0 .wired (c .before .before .before .before .before .before .before .before .before .before .args .t) (c .before .before .before .before .before .before .before .before .before .before .pre .2) .gate, c .before .before .before .before .before .before .before .before .before .before .pre .0 .states)
 
--- src/relax.rt:82:8
 conducts-requires : tie.Need-conducts-requires
 conducts-requires c κs = search needs
 
--- src/relax.rt:83:17
 mul-a : tie.Need-mul-a
 mul-a c = search needs
 
--- src/relax.rt:83:17
 shared-slice-read-a : tie.Need-shared-slice-read-a
 shared-slice-read-a c = search needs
 
--- src/relax.rt:83:17
 cast-a : tie.Need-cast-a
 cast-a c = omega (arith, c .shared-slice-known10 .given (c .before .before .before .before .before .before .before .before .before .before .before .before .before .args .t))
 
--- src/relax.rt:84:17
 mul-b : tie.Need-mul-b
 mul-b c = search needs
 
--- src/relax.rt:84:17
 shared-slice-read-b : tie.Need-shared-slice-read-b
 shared-slice-read-b c = search needs
 
--- src/relax.rt:84:17
 cast-b : tie.Need-cast-b
 cast-b c = omega (arith, c .shared-slice-known11 .given (c .before .before .before .before .before .before .before .before .before .before .before .before .before .before .args .t))
 
--- src/relax.rt:85:13
 pull-requires : tie.Need-pull-requires
 pull-requires c κs = omega (arith, c .before .before .before .before .before .before .before .before .before .before .before .before .before .before .before .pre .0 .wired (c .before .before .before .before .before .before .before .before .before .before .before .before .before .before .before .args .t) (c .before .before .before .before .before .before .before .before .before .before .before .before .before .before .before .pre .2))
 
--- src/relax.rt:86:13
 pull-requires-2 : tie.Need-pull-requires-2
 pull-requires-2 c κs = omega (arith, c .before .before .before .before .before .before .before .before .before .before .before .before .before .before .before .before .before .before .before .pre .0 .wired (c .before .before .before .before .before .before .before .before .before .before .before .before .before .before .before .before .before .before .before .args .t) (c .before .before .before .before .before .before .before .before .before .before .before .before .before .before .before .before .before .before .before .pre .2), c .before .before .before .pull .kept)
 
--- src/relax.rt:87:16
 add-result : tie.Need-add-result
 add-result c = omega (arith, pulled-few (c .before .before .before .before .before .before .pull .ensures), pulled-few (c .before .before .pull2 .ensures))
 
--- src/relax.rt:87:9
 same-length : tie.Need-same-length
 same-length c = search needs
 
--- src/relax.rt:87:9
 returns : tie.Need-returns
 returns c = tried _ _ (c .before .before .before .before .before .before .before .before .before .before .before .before .before .before .before .before .before .before .before .before .before .before .pre .2) (sym (c .before .before .before .before .before .before .before .before .before .before .before .conducts .ensures) ∙ c .before .before .before .before .before .before .before .before .before .before .if1 .taken) (c .before .before .before .before .before .before .before .before .before .before .before .before .before .before .before .before .before .before .before .before .before .before .pre .0 .wired (c .before .before .before .before .before .before .before .before .before .before .before .before .before .before .before .before .before .before .before .before .before .before .args .t) (c .before .before .before .before .before .before .before .before .before .before .before .before .before .before .before .before .before .before .before .before .before .before .pre .2) .source) (c .before .before .before .before .before .before .before .before .before .before .before .before .before .before .before .before .before .before .before .before .before .before .pre .0 .wired (c .before .before .before .before .before .before .before .before .before .before .before .before .before .before .before .before .before .before .before .before .before .before .args .t) (c .before .before .before .before .before .before .before .before .before .before .before .before .before .before .before .before .before .before .before .before .before .before .pre .2) .drain) (c .before .before .before .before .before .before .pull .ensures) (c .before .before .pull2 .ensures)
 
--- src/relax.rt:65:1
 returns-2 : tie.Need-returns-2
 returns-2 c = untried _ _ (sym (c .before .conducts .ensures) ∙ c .if1 .left)
 

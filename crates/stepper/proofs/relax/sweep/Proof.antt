@@ -10,9 +10,6 @@ use borrow.Author.Needs.{needs}
 use native.Mathlib.Omega.{arith}
 use Rattle.stepper.proofs.relax.sweep.Statement.{statement}
 use Rattle.stepper.proofs.relax.sweep.Tie as tie
-use Rattle.stepper.proofs.relax.sweep.Reads as reads
-use Rattle.stepper.proofs.relax.sweep.Lts as lts
-use Rattle.stepper.proofs.relax.relax_one.Reads as relax-one-reads
 
 abbrev Inv-loop : tie.InvT-loop
 Inv-loop kinds states types gates sources drains work₀ table floor unknown raised₀ t₀ work raised t = (t ≤ length types) × (length work ≡ length work₀) × Swept (flow (netOf kinds types gates sources drains) states unknown table floor) t work₀ work raised
@@ -20,35 +17,27 @@ Inv-loop kinds states types gates sources drains work₀ table floor unknown rai
 abbrev μ-loop : tie.MeasureT-loop
 μ-loop kinds states types gates sources drains work₀ table floor unknown raised₀ t₀ work raised t = length types - t
 
--- src/relax.rt:110:5
 loop-holds : tie.Need-loop-holds Inv-loop μ-loop
 loop-holds c = (omega arith, refl, swept-none _)
 
--- src/relax.rt:111:19
 relax-one-requires : tie.Need-relax-one-requires Inv-loop μ-loop
 relax-one-requires c κs = (rw (c .before .before .loop .inv .1) (c .before .before .before .before .before .before .before .before .before .before .pre .0), c .before .before .before .before .before .before .before .before .before .before .pre .1, c .before .loop-test .taken)
 
--- src/relax.rt:111:9
 add-raised : tie.Need-add-raised Inv-loop μ-loop
 add-raised c = omega (arith, c .before .before .relax-one .ensures .few, c .before .before .before .before .before .loop .inv .2 .few)
 
--- src/relax.rt:124:9
 add-t : tie.Need-add-t Inv-loop μ-loop
 add-t c = search needs
 
--- src/relax.rt:110:5
 loop-less : tie.Need-loop-less Inv-loop μ-loop
 loop-less c = search needs
 
--- src/relax.rt:110:5
 loop-again : tie.Need-loop-again Inv-loop μ-loop
 loop-again c = (omega arith, lifts-length _ (c .before .before .relax-one .ensures .lifts) ∙ c .before .before .before .before .before .loop .inv .1, swept-more _ (c .before .before .before .before .before .loop .inv .2) (c .before .before .relax-one .ensures))
 
--- src/relax.rt:93:1
 same-length : tie.Need-same-length Inv-loop μ-loop
 same-length c = c .before .loop .inv .1
 
--- src/relax.rt:93:1
 returns : tie.Need-returns Inv-loop μ-loop
 returns c = swept-end _ (le-antisymm (c .before .loop .inv .0) (c .loop-test .left)) (c .before .loop .inv .2)
 

@@ -1,18 +1,12 @@
 -- `stepper::start::against` meets its contract: by the definition of what a table begins with. Assumes nothing.
-use Prim.Native.Nat.{ℕ, _+_, _-_, _*_, _≤_, _<_}
-use mathlib.Core.Path.{_≡_, refl, sym, ap, ap₂, _∙_}
+use Prim.Native.Nat.{ℕ, _≤_, _<_}
+use mathlib.Core.Path.{_≡_, sym, ap, _∙_}
 use borrow.Author.Tests.{eq-eqb, ne-eqb, lt-leb, le-leb}
-use mathlib.Core.Bool.{Bool, true, false, not, cond, _&&_, _||_, or-true}
+use mathlib.Core.Bool.{Bool, true, false, not, cond, _&&_, _||_}
 use lib.Dec.{leb}
-use native.Mathlib.Omega.{arith}
 use borrow.Author.Needs.{needs}
 use Rattle.stepper.proofs.start.against.Statement.{statement}
 use Rattle.stepper.proofs.start.against.Tie as tie
-use Rattle.stepper.proofs.start.against.Reads as reads
-use Rattle.stepper.proofs.start.against.Lts as lts
-use Rattle.stepper.proofs.is_input.Reads as is-input-reads
-use Rattle.stepper.proofs.start.source_state.Reads as source-state-reads
-use Rattle.stepper.proofs.start.strength.Reads as strength-reads
 
 differs : {a b : Bool} → a ≡ b → not a ≡ not b
 differs e = ap not e
@@ -27,43 +21,33 @@ low u i o d e f h = simp (e, f, lt-leb d o h)
 enough : (u i : Bool) (o d : ℕ) → u ≡ true → i ≡ false → d ≤ o → o ≡ cond (u && (i || leb d o)) o 0
 enough u i o d e f h = simp (e, f, le-leb d o h)
 
--- src/start.rt:41:8
 source-state-requires : tie.Need-source-state-requires
 source-state-requires c κs = search needs
 
--- src/start.rt:42:9
 returns : tie.Need-returns
 returns c = simp (eq-eqb _ _ (sym (c .before .source-state .ensures) ∙ c .if1 .taken))
 
--- src/start.rt:44:9
 strength-requires : tie.Need-strength-requires
 strength-requires c κs = search needs
 
--- src/start.rt:45:24
 shared-slice-read-is-input : tie.Need-shared-slice-read-is-input
 shared-slice-read-is-input c = search needs
 
--- src/start.rt:45:8
 is-input-requires : tie.Need-is-input-requires
 is-input-requires c κs = search needs
 
--- src/start.rt:46:9
 returns-2 : tie.Need-returns-2
 returns-2 c = c .before .before .before .strength .ensures ∙ whole _ _ _ _ (differs (ne-eqb _ _ (λ e. c .before .before .before .before .if1 .left (c .before .before .before .before .before .source-state .ensures ∙ e)))) (sym (c .before .is-input .ensures) ∙ c .if2 .taken)
 
--- src/start.rt:48:12
 mul-if3 : tie.Need-mul-if3
 mul-if3 c = search needs
 
--- src/start.rt:48:12
 shared-slice-read-if3 : tie.Need-shared-slice-read-if3
 shared-slice-read-if3 c = search needs
 
--- src/start.rt:49:9
 returns-3 : tie.Need-returns-3
 returns-3 c = low _ _ _ _ (differs (ne-eqb _ _ (λ e. c .before .before .before .before .before .before .if1 .left (c .before .before .before .before .before .before .before .source-state .ensures ∙ e)))) (sym (c .before .before .before .is-input .ensures) ∙ c .before .before .if2 .left) (rw (c .before .before .before .before .before .strength .ensures) at (c .if3 .taken))
 
--- src/start.rt:37:1
 returns-4 : tie.Need-returns-4
 returns-4 c = c .before .before .before .before .before .strength .ensures ∙ enough _ _ _ _ (differs (ne-eqb _ _ (λ e. c .before .before .before .before .before .before .if1 .left (c .before .before .before .before .before .before .before .source-state .ensures ∙ e)))) (sym (c .before .before .before .is-input .ensures) ∙ c .before .before .if2 .left) (rw (c .before .before .before .before .before .strength .ensures) at (c .if3 .left))
 

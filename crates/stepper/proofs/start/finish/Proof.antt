@@ -1,17 +1,14 @@
 -- `stepper::start::finish` meets its contract: the tables that it reads lie behind what it writes. Assumes nothing.
-use Prim.Native.Nat.{ℕ, _+_, _-_, _*_, _≤_, _<_}
-use mathlib.Core.Path.{_≡_, refl, sym, ap, ap₂, _∙_}
-use lib.ListN.{length, set, length-set}
+use Prim.Native.Nat.{_+_, _-_, _*_, _≤_}
+use mathlib.Core.Path.{_≡_, refl}
+use lib.ListN.{length, length-set}
 use native.Mathlib.Nat.{le-antisymm}
-use Rattle.stepper.specs.Start.{Written, Bytes, alone, own, begins, next}
-use Rattle.stepper.proofs.Cells.{written-none, written-more, written-end, written-all, bytes-more, count-more}
+use Rattle.stepper.specs.Start.{Written, Bytes, alone, next}
+use Rattle.stepper.proofs.Cells.{written-none, written-more, written-end, bytes-more}
 use borrow.Author.Needs.{needs}
 use native.Mathlib.Omega.{arith}
 use Rattle.stepper.proofs.start.finish.Statement.{statement}
 use Rattle.stepper.proofs.start.finish.Tie as tie
-use Rattle.stepper.proofs.start.finish.Reads as reads
-use Rattle.stepper.proofs.start.finish.Lts as lts
-use Rattle.stepper.proofs.start.next_state.Reads as next-state-reads
 
 abbrev Inv-loop : tie.InvT-loop
 Inv-loop kinds states work₀ v₀ work v = (v ≤ length kinds) × (length work ≡ length work₀) × Written (next (alone kinds) states work₀) work₀ 0 v work × Bytes v work
@@ -19,43 +16,33 @@ Inv-loop kinds states work₀ v₀ work v = (v ≤ length kinds) × (length work
 abbrev μ-loop : tie.MeasureT-loop
 μ-loop kinds states work₀ v₀ work v = length kinds - v
 
--- src/start.rt:114:5
 loop-holds : tie.Need-loop-holds Inv-loop μ-loop
 loop-holds c = (omega arith, refl, written-none _ _ _, λ k l. absurd (omega arith))
 
--- src/start.rt:115:19
 next-state-requires : tie.Need-next-state-requires Inv-loop μ-loop
 next-state-requires c κs = search needs
 
--- src/start.rt:115:19
 cast-work : tie.Need-cast-work Inv-loop μ-loop
 cast-work c = search needs
 
--- src/start.rt:115:9
 mul-work : tie.Need-mul-work Inv-loop μ-loop
 mul-work c = search needs
 
--- src/start.rt:115:9
 slice-write-work : tie.Need-slice-write-work Inv-loop μ-loop
 slice-write-work c = search needs
 
--- src/start.rt:116:9
 add-v : tie.Need-add-v Inv-loop μ-loop
 add-v c = search needs
 
--- src/start.rt:114:5
 loop-less : tie.Need-loop-less Inv-loop μ-loop
 loop-less c = search needs
 
--- src/start.rt:114:5
 loop-again : tie.Need-loop-again Inv-loop μ-loop
 loop-again c = (omega arith, simp length-set (c .before .before .before .loop .inv .1), written-more _ (omega arith) (omega arith) (rw (c .before .before .before .loop .inv .2 .after (length (c .before .before .before .before .before .before .before .args .kinds .now) + c .before .before .before .loop .v) (omega arith), c .before .before .before .loop .inv .2 .after (2 * length (c .before .before .before .before .before .before .before .args .kinds .now) + c .before .before .before .loop .v) (omega arith)) at (c .next-state .ensures)) (c .before .before .before .loop .inv .2), bytes-more (c .before .before .before .loop .work) (c .before .before .before .loop .v) (c .next-state .result) (omega arith) (omega arith) (c .before .before .before .loop .inv .3))
 
--- src/start.rt:109:1
 same-length : tie.Need-same-length Inv-loop μ-loop
 same-length c = c .before .loop .inv .1
 
--- src/start.rt:109:1
 returns : tie.Need-returns Inv-loop μ-loop
 returns c = (written-end (le-antisymm (c .before .loop .inv .0) (c .loop-test .left)) (c .before .loop .inv .2), rw (le-antisymm (c .loop-test .left) (c .before .loop .inv .0)) (c .before .loop .inv .3))
 

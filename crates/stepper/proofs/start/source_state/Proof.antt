@@ -1,25 +1,18 @@
 -- `stepper::start::source_state` meets its contract. Assumes nothing.
-use borrow.Author.Tests.{eq-eqb, ne-eqb, lt-leb, le-leb}
-use native.Mathlib.Omega.{arith}
+use borrow.Author.Tests.{eq-eqb, ne-eqb}
 use borrow.Author.Needs.{needs}
 use Rattle.stepper.proofs.start.source_state.Statement.{statement}
 use Rattle.stepper.proofs.start.source_state.Tie as tie
-use Rattle.stepper.proofs.start.source_state.Reads as reads
-use Rattle.stepper.proofs.start.source_state.Lts as lts
 
--- src/start.rt:30:8
 shared-slice-read-if1 : tie.Need-shared-slice-read-if1
 shared-slice-read-if1 c = search needs
 
--- src/start.rt:31:9
 returns : tie.Need-returns
 returns c = simp (eq-eqb _ _ (c .if1 .taken))
 
--- src/start.rt:33:5
 shared-slice-read-result : tie.Need-shared-slice-read-result
 shared-slice-read-result c = search needs
 
--- src/start.rt:26:1
 returns-2 : tie.Need-returns-2
 returns-2 c = simp (ne-eqb _ _ (c .before .if1 .left))
 

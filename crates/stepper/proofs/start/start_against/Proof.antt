@@ -1,18 +1,15 @@
 -- `stepper::start::start_against` meets its contract: the definite strengths, which it reads, stay as they came. Assumes nothing.
-use Rattle.model.specs.Places.{at, count}
-use Prim.Native.Nat.{ℕ, _+_, _-_, _*_, _≤_, _<_}
-use mathlib.Core.Path.{_≡_, refl, sym, ap, ap₂, _∙_}
-use lib.ListN.{length, set, length-set}
+use Rattle.model.specs.Places.{at}
+use Prim.Native.Nat.{_-_, _≤_}
+use mathlib.Core.Path.{_≡_, refl}
+use lib.ListN.{length, length-set}
 use native.Mathlib.Nat.{le-antisymm}
-use Rattle.stepper.specs.Start.{Written, Bytes, alone, own, begins, next}
-use Rattle.stepper.proofs.Cells.{written-none, written-more, written-end, written-all, bytes-more, count-more}
+use Rattle.stepper.specs.Start.{Written, alone, begins}
+use Rattle.stepper.proofs.Cells.{written-none, written-more, written-end}
 use borrow.Author.Needs.{needs}
 use native.Mathlib.Omega.{arith}
 use Rattle.stepper.proofs.start.start_against.Statement.{statement}
 use Rattle.stepper.proofs.start.start_against.Tie as tie
-use Rattle.stepper.proofs.start.start_against.Reads as reads
-use Rattle.stepper.proofs.start.start_against.Lts as lts
-use Rattle.stepper.proofs.start.against.Reads as against-reads
 
 abbrev Inv-loop : tie.InvT-loop
 Inv-loop kinds states work₀ table b v₀ work v = (v ≤ length kinds) × (length work ≡ length work₀) × Written (begins (alone kinds) states b (at work₀)) work₀ table v work
@@ -20,43 +17,33 @@ Inv-loop kinds states work₀ table b v₀ work v = (v ≤ length kinds) × (len
 abbrev μ-loop : tie.MeasureT-loop
 μ-loop kinds states work₀ table b v₀ work v = length kinds - v
 
--- src/start.rt:102:5
 loop-holds : tie.Need-loop-holds Inv-loop μ-loop
 loop-holds c = (omega arith, refl, written-none _ _ _)
 
--- src/start.rt:103:27
 against-requires : tie.Need-against-requires Inv-loop μ-loop
 against-requires c κs = search needs
 
--- src/start.rt:103:14
 add-work : tie.Need-add-work Inv-loop μ-loop
 add-work c = search needs
 
--- src/start.rt:103:9
 mul-work : tie.Need-mul-work Inv-loop μ-loop
 mul-work c = search needs
 
--- src/start.rt:103:9
 slice-write-work : tie.Need-slice-write-work Inv-loop μ-loop
 slice-write-work c = search needs
 
--- src/start.rt:104:9
 add-v : tie.Need-add-v Inv-loop μ-loop
 add-v c = search needs
 
--- src/start.rt:102:5
 loop-less : tie.Need-loop-less Inv-loop μ-loop
 loop-less c = search needs
 
--- src/start.rt:102:5
 loop-again : tie.Need-loop-again Inv-loop μ-loop
 loop-again c = (omega arith, simp length-set (c .before .before .before .loop .inv .1), written-more _ refl (omega arith) (rw (c .before .before .before .loop .inv .2 .before (c .before .before .before .loop .v) (omega arith)) at (c .against .ensures)) (c .before .before .before .loop .inv .2))
 
--- src/start.rt:97:1
 same-length : tie.Need-same-length Inv-loop μ-loop
 same-length c = c .before .loop .inv .1
 
--- src/start.rt:97:1
 returns : tie.Need-returns Inv-loop μ-loop
 returns c = written-end (le-antisymm (c .before .loop .inv .0) (c .loop-test .left)) (c .before .loop .inv .2)
 

@@ -1,35 +1,25 @@
 -- `stepper::start::strength` meets its contract: kind by kind. Assumes nothing.
-use mathlib.Core.Path.{_≡_, refl, sym, ap, ap₂, _∙_}
-use borrow.Author.Tests.{eq-eqb, ne-eqb, lt-leb, le-leb}
-use native.Mathlib.Omega.{arith}
+use mathlib.Core.Path.{sym, _∙_}
+use borrow.Author.Tests.{eq-eqb, ne-eqb}
 use borrow.Author.Needs.{needs}
 use Rattle.stepper.proofs.start.strength.Statement.{statement}
 use Rattle.stepper.proofs.start.strength.Tie as tie
-use Rattle.stepper.proofs.start.strength.Reads as reads
-use Rattle.stepper.proofs.start.strength.Lts as lts
-use Rattle.stepper.proofs.is_input.Reads as is-input-reads
 
--- src/start.rt:16:24
 shared-slice-read-is-input : tie.Need-shared-slice-read-is-input
 shared-slice-read-is-input c = search needs
 
--- src/start.rt:16:8
 is-input-requires : tie.Need-is-input-requires
 is-input-requires c κs = search needs
 
--- src/start.rt:17:9
 returns : tie.Need-returns
 returns c = simp (sym (c .before .is-input .ensures) ∙ c .if1 .taken)
 
--- src/start.rt:19:8
 shared-slice-read-if2 : tie.Need-shared-slice-read-if2
 shared-slice-read-if2 c = search needs
 
--- src/start.rt:20:9
 returns-2 : tie.Need-returns-2
 returns-2 c = simp (sym (c .before .before .before .is-input .ensures) ∙ c .before .before .if1 .left, eq-eqb _ _ (c .if2 .taken))
 
--- src/start.rt:12:1
 returns-3 : tie.Need-returns-3
 returns-3 c = simp (sym (c .before .before .before .is-input .ensures) ∙ c .before .before .if1 .left, ne-eqb _ _ (c .if2 .left))
 

@@ -1,16 +1,14 @@
 -- `stepper::start::zero` meets its contract: the cells passed are 0, the others as they came. Assumes nothing.
-use Prim.Native.Nat.{ℕ, _+_, _-_, _*_, _≤_, _<_}
-use mathlib.Core.Path.{_≡_, refl, sym, ap, ap₂, _∙_}
-use lib.ListN.{length, set, length-set}
+use Prim.Native.Nat.{_-_, _≤_}
+use mathlib.Core.Path.{_≡_, refl}
+use lib.ListN.{length, length-set}
 use native.Mathlib.Nat.{le-antisymm}
-use Rattle.stepper.specs.Start.{Written, Bytes, alone, own, begins, next}
-use Rattle.stepper.proofs.Cells.{written-none, written-more, written-end, written-all, bytes-more, count-more}
+use Rattle.stepper.specs.Start.{Written}
+use Rattle.stepper.proofs.Cells.{written-none, written-more, written-end}
 use borrow.Author.Needs.{needs}
 use native.Mathlib.Omega.{arith}
 use Rattle.stepper.proofs.start.zero.Statement.{statement}
 use Rattle.stepper.proofs.start.zero.Tie as tie
-use Rattle.stepper.proofs.start.zero.Reads as reads
-use Rattle.stepper.proofs.start.zero.Lts as lts
 
 abbrev Inv-loop : tie.InvT-loop
 Inv-loop work₀ first count k₀ work k = (k ≤ count) × (length work ≡ length work₀) × Written (λ i. 0) work₀ first k work
@@ -18,39 +16,30 @@ Inv-loop work₀ first count k₀ work k = (k ≤ count) × (length work ≡ len
 abbrev μ-loop : tie.MeasureT-loop
 μ-loop work₀ first count k₀ work k = count - k
 
--- src/start.rt:78:5
 loop-holds : tie.Need-loop-holds Inv-loop μ-loop
 loop-holds c = (omega arith, refl, written-none _ _ _)
 
--- src/start.rt:79:14
 add-work : tie.Need-add-work Inv-loop μ-loop
 add-work c = search needs
 
--- src/start.rt:79:9
 mul-work : tie.Need-mul-work Inv-loop μ-loop
 mul-work c = search needs
 
--- src/start.rt:79:9
 slice-write-work : tie.Need-slice-write-work Inv-loop μ-loop
 slice-write-work c = search needs
 
--- src/start.rt:80:9
 add-k : tie.Need-add-k Inv-loop μ-loop
 add-k c = search needs
 
--- src/start.rt:78:5
 loop-less : tie.Need-loop-less Inv-loop μ-loop
 loop-less c = search needs
 
--- src/start.rt:78:5
 loop-again : tie.Need-loop-again Inv-loop μ-loop
 loop-again c = (omega arith, simp length-set (c .before .loop .inv .1), written-more _ refl (omega arith) refl (c .before .loop .inv .2))
 
--- src/start.rt:73:1
 same-length : tie.Need-same-length Inv-loop μ-loop
 same-length c = c .before .loop .inv .1
 
--- src/start.rt:73:1
 returns : tie.Need-returns Inv-loop μ-loop
 returns c = written-end (le-antisymm (c .before .loop .inv .0) (c .loop-test .left)) (c .before .loop .inv .2)
 

@@ -1,28 +1,21 @@
 -- `stepper::tables::possible` meets its contract: one relaxation, over the definite strengths. Assumes nothing.
-use mathlib.Core.Logic.{inl, inr}
-use Rattle.stepper.proofs.Least.{definite, against, evaluated, checked-room}
+use mathlib.Core.Logic.{inl}
+use Rattle.stepper.proofs.Least.{against, checked-with}
+use mathlib.Core.Path.{refl}
 use native.Mathlib.Omega.{arith}
 use borrow.Author.Needs.{needs}
 use Rattle.stepper.proofs.tables.possible.Statement.{statement}
 use Rattle.stepper.proofs.tables.possible.Tie as tie
-use Rattle.stepper.proofs.tables.possible.Reads as reads
-use Rattle.stepper.proofs.tables.possible.Lts as lts
-use Rattle.stepper.proofs.relax.relax.Reads as relax-reads
-use Rattle.stepper.proofs.start.start_against.Reads as start-against-reads
 
--- src/tables.rt:55:5
 start-against-requires : tie.Need-start-against-requires
 start-against-requires c κs = search needs
 
--- src/tables.rt:56:5
 relax-requires : tie.Need-relax-requires
-relax-requires c κs = (checked-room (c .before .before .before .before .before .before .before .before .before .before .before .before .pre .0) (omega (arith, c .before .before .before .start-against .kept)), record { table-fits = omega (arith, c .before .before .before .before .before .before .before .before .before .before .before .before .pre .2); floor-fits = omega arith; apart = inl (omega (arith, c .before .before .before .before .before .before .before .before .before .before .before .before .pre .1)) })
+relax-requires c κs = (checked-with (c .before .before .before .before .before .before .before .before .before .before .before .before .pre .0) refl (omega (arith, c .before .before .before .start-against .kept)), record { table-fits = omega (arith, c .before .before .before .before .before .before .before .before .before .before .before .before .pre .2); floor-fits = omega arith; apart = inl (omega (arith, c .before .before .before .before .before .before .before .before .before .before .before .before .pre .1)) })
 
--- src/tables.rt:41:1
 same-length : tie.Need-same-length
 same-length c = search needs
 
--- src/tables.rt:41:1
 returns : tie.Need-returns
 returns c = against _ _ (c .before .before .before .before .before .before .before .before .before .before .before .before .before .before .before .pre .1) (c .before .before .before .before .before .before .start-against .ensures) (c .before .before .relax .ensures)
 

@@ -1,0 +1,3 @@
+-- What lies behind the loops over steps.
+pub mod Steps
+pub mod Entering
