@@ -1,5 +1,5 @@
 -- Steps until settled, one at a time: when nothing is altered, when the limit is reached, and one more. Assumes nothing.
-use Prim.Native.Nat.{ℕ, zero, suc, _+_, _<_}
+use Prim.Native.Nat.{ℕ, zero, suc, _+_, _-_, _<_}
 use native.Mathlib.Omega.{arith}
 use native.Mathlib.Numerals.{add-one}
 use mathlib.Core.Path.{_≡_, refl, sym, ap, _∙_, subst}
@@ -9,7 +9,7 @@ use lib.ListN.{length}
 use lib.Seq.{ext-getD}
 use lib.Dec.{eqb}
 use borrow.Author.Tests.{eqb-true, eq-eqb, ne-eqb, not-false}
-use Rattle.model.specs.Places.{count, at, same}
+use Rattle.model.specs.Places.{tab, count, at, same}
 use Rattle.model.specs.Net.{Net, nodes, step}
 use Rattle.model.specs.Run.{Ran, settled, settle}
 use Rattle.model.specs.Entries.{altered}
@@ -45,24 +45,47 @@ same-count s r e = go (same r s) refl
           (ext-getD 0 r s e (λ v l. eqb-true _ _ (not-false _ (never-count (length s) (λ i. not (eqb (at r i) (at s i))) z v (omega arith))))))
 
 module _ (f : List ℕ → List ℕ) where
-  -- steps end where the state is settled, or where none is left; else they go on
+  -- steps with one more left, by whether the state is settled
+  abbrev turn : ℕ → ℕ → List ℕ → Bool → Ran
+  turn fuel k s b = elim b [ true ↦ record { ends = true; count = k; states = s } | false ↦ settle f fuel (suc k) (f s) ]
+
+  -- they end where the state is settled, or where none is left; else they go on
   settle-ends : (fuel k : ℕ) (s : List ℕ) → settled f s ≡ true → settle f fuel k s ≡ record { ends = true; count = k; states = s }
   settle-ends zero k s e = ap (λ (b : Bool). record { ends = b; count = k; states = s }) e
-  settle-ends (suc fuel) k s e = rw e
+  settle-ends (suc fuel) k s e = ap (turn fuel k s) e
 
   settle-stops : (fuel k : ℕ) (s : List ℕ) → fuel ≡ 0 → settled f s ≡ false → settle f fuel k s ≡ record { ends = false; count = k; states = s }
   settle-stops fuel k s z e = rw (z, e)
 
   settle-goes : (fuel m k : ℕ) (s : List ℕ) → fuel ≡ m + 1 → settled f s ≡ false → settle f fuel k s ≡ settle f m (k + 1) (f s)
-  settle-goes fuel m k s z e = rw (z, add-one, add-one, e)
+  settle-goes fuel m k s z e = ap (λ (n : ℕ). settle f n k s) (z ∙ add-one m) ∙ ap (turn m k s) e ∙ ap (λ (n : ℕ). settle f m n (f s)) (sym (add-one k))
 
   module _ (n : ℕ) (input : ℕ → Bool) (st : Stepper n input f) (v : ℕ) (l : v < n) (i : input v ≡ true) where
     -- an input holds while steps follow
     pub settle-keeps : (fuel k : ℕ) (s : List ℕ) → at (settle f fuel k s .states) v ≡ at s v
     settle-keeps zero k s = refl
-    settle-keeps (suc fuel) k s = go (same (f s) s) (settle-keeps fuel (suc k) (f s))
+    settle-keeps (suc fuel) k s = go (settled f s) (settle-keeps fuel (suc k) (f s))
       where
-        go : (b : Bool) → at (settle f fuel (suc k) (f s) .states) v ≡ at (f s) v
-            → at ((elim b [ true ↦ record { ends = true; count = k; states = s } | false ↦ settle f fuel (suc k) (f s) ]) .states) v ≡ at s v
+        go : (b : Bool) → at (settle f fuel (suc k) (f s) .states) v ≡ at (f s) v → at (turn fuel k s b .states) v ≡ at s v
         go true h = refl
         go false h = h ∙ st .keeps s v l i
+
+ended-as : {net : Net} {x : Ran} {w w′ s : List ℕ} {b : Bool} {k : ℕ} → x ≡ record { ends = b; count = k; states = s } → Spared net w w′ → Ended net x w b k s w′
+ended-as e r = record { ends = sym (ap (λ (x : Ran). x .ends) e); count = sym (ap (λ (x : Ran). x .count) e); states = sym (ap (λ (x : Ran). x .states) e); spared = r }
+
+-- one evaluated step, of which k nodes differ, in steps of which `count` were taken and `limit` are allowed
+module _ {net : Net} {s w w′ : List ℕ} {k : ℕ} (long : length s ≡ nodes net) (E : Evaluated net s w w′) (c : k ≡ altered s w′) where
+  pub settled-test : eqb k 0 ≡ settled (step net) s
+  settled-test = ap (λ (n : ℕ). eqb n 0) (c ∙ evaluated-count long E) ∙ same-count s (step net s) (stepper net .sized s ∙ sym long)
+
+  module _ {x : Ran} {count : ℕ} (limit : ℕ) (i : x ≡ settle (step net) (limit - count) count s) where
+    pub ends : {w₀ : List ℕ} → Spared net w₀ w → k ≡ 0 → Ended net x w₀ true count s w′
+    ends r z = ended-as (i ∙ settle-ends (step net) (limit - count) count s (sym settled-test ∙ eq-eqb k 0 z)) (λ j l. E .after j l ∙ r j l)
+
+    pub stops : {w₀ : List ℕ} → Spared net w₀ w → (k ≡ 0 → ⊥) → count ≡ limit → Ended net x w₀ false count s w′
+    stops r z e = ended-as (i ∙ settle-stops (step net) (limit - count) count s (omega arith) (sym settled-test ∙ ne-eqb k 0 z)) (λ j l. E .after j l ∙ r j l)
+
+    pub goes : (k ≡ 0 → ⊥) → count < limit → {s′ : List ℕ} → s′ ≡ tab (length s) (at w′) → x ≡ settle (step net) (limit - (count + 1)) (count + 1) s′
+    goes z e q =
+        i ∙ settle-goes (step net) (limit - count) (limit - (count + 1)) count s (omega arith) (sym settled-test ∙ ne-eqb k 0 z)
+        ∙ ap (settle (step net) (limit - (count + 1)) (count + 1)) (sym (q ∙ evaluated-states long E))
