@@ -23,21 +23,20 @@ put-last s [] (x ∷ vs) p v e = absurd (omega arith)
 put-last s (q ∷ ps) [] p v e = absurd (omega arith)
 put-last s (q ∷ ps) (x ∷ vs) p v e = put-last (set s q x) ps vs p v (omega arith)
 
-module _ (s ps vs : List ℕ) (same-length : length vs ≡ length ps) where
-  -- the first e changes entered, one more, and all
-  abbrev pub entering : ℕ → List ℕ
-  entering e = put s (take e ps) (take e vs)
+-- the first e changes entered, one more, and all
+abbrev pub entering : List ℕ → List ℕ → List ℕ → ℕ → List ℕ
+entering s ps vs e = put s (take e ps) (take e vs)
 
-  pub entering-more : (e : ℕ) → e < length ps → entering (e + 1) ≡ set (entering e) (at ps e) (at vs e)
-  entering-more e l =
-      let m : e < length vs = omega arith in
-      rw (add-one, take-suc ps e 0, take-suc vs e 0)
-      (put-last s (take e ps) (take e vs) (at ps e) (at vs e) (length-take-le e vs (le-of-lt m) ∙ sym (length-take-le e ps (le-of-lt l))))
+pub entering-more : (s ps vs : List ℕ) → length vs ≡ length ps → (e : ℕ) → e < length ps → set (entering s ps vs e) (at ps e) (at vs e) ≡ entering s ps vs (e + 1)
+entering-more s ps vs q e l =
+    let m : e < length vs = omega arith in
+    rw (add-one, take-suc ps e 0, take-suc vs e 0)
+    (sym (put-last s (take e ps) (take e vs) (at ps e) (at vs e) (length-take-le e vs (le-of-lt m) ∙ sym (length-take-le e ps (le-of-lt l)))))
 
-  pub entering-all : (e : ℕ) → length ps ≤ e → entering e ≡ put s ps vs
-  entering-all e l =
-      let m : length vs ≤ e = omega arith in
-      rw (take-all e ps l, take-all e vs m)
+pub entering-all : (s ps vs : List ℕ) → length vs ≡ length ps → (e : ℕ) → length ps ≤ e → entering s ps vs e ≡ put s ps vs
+entering-all s ps vs q e l =
+    let m : length vs ≤ e = omega arith in
+    rw (take-all e ps l, take-all e vs m)
 
 raised-at : (s to : List ℕ) (v : ℕ) → v < length s → at (raised s to) v ≡ cond (changed s to v) 2 (at s v)
 unfolding raised
@@ -74,16 +73,16 @@ module _ (s to : List ℕ) (p y : ℕ) (long : length to ≡ length s) (below : 
       go v l (here q f) = f ∙ e ∙ rw (raised-still, q, getD-set-same to p y 0 (omega arith)) (new (eqb (at s p) y))
       go v l (else q f) = f ∙ raised-at s to v l ∙ rw (getD-set-other to p v y 0 q)
 
-module _ (s ps vs : List ℕ) (N : Named (changesOf ps vs) (length s)) (once : Once (changesOf ps vs)) where
-  pub raising-more : (e x : ℕ) → e < length ps → x ≡ cond (eqb (at (raised s (entering s ps vs (N .lengths) e)) (at ps e)) (at vs e)) (at (raised s (entering s ps vs (N .lengths) e)) (at ps e)) 2
-      → set (raised s (entering s ps vs (N .lengths) e)) (at ps e) x ≡ raised s (entering s ps vs (N .lengths) (e + 1))
-  raising-more e x l q =
-      raised-set s (entering s ps vs (N .lengths) e) (at ps e) (at vs e) (length-put s (take e ps) (take e vs)) (N .below e l)
-      (put-unnamed s (take e ps) (take e vs) (at ps e) (λ k m r. unnamed k (omega (arith, length-take-le e ps (le-of-lt l))) r)) q
-      ∙ ap (raised s) (sym (entering-more s ps vs (N .lengths) e l))
-    where
-      unnamed : (k : ℕ) → k < e → at (take e ps) k ≡ at ps e → ⊥
-      unnamed k m r = once k e m l (sym (getD-take e ps k 0 m) ∙ r)
+pub raising-more : (s ps vs : List ℕ) → Named (changesOf ps vs) (length s) → Once (changesOf ps vs) → (e x : ℕ) → e < length ps
+    → x ≡ cond (eqb (at (raised s (entering s ps vs e)) (at ps e)) (at vs e)) (at (raised s (entering s ps vs e)) (at ps e)) 2
+    → set (raised s (entering s ps vs e)) (at ps e) x ≡ raised s (entering s ps vs (e + 1))
+raising-more s ps vs N once e x l q =
+    raised-set s (entering s ps vs e) (at ps e) (at vs e) (length-put s (take e ps) (take e vs)) (N .below e l)
+    (put-unnamed s (take e ps) (take e vs) (at ps e) (λ k m r. unnamed k (omega (arith, length-take-le e ps (le-of-lt l))) r)) q
+    ∙ ap (raised s) (entering-more s ps vs (N .lengths) e l)
+  where
+    unnamed : (k : ℕ) → k < e → at (take e ps) k ≡ at ps e → ⊥
+    unnamed k m r = once k e m l (sym (getD-take e ps k 0 m) ∙ r)
 
 -- the first half ended in a, where named inputs that are not changed still have their states: entering once more is lowering
 module _ (s a ps vs : List ℕ) (N : Named (changesOf ps vs) (length s)) (once : Once (changesOf ps vs)) (long : length a ≡ length s)
