@@ -11,11 +11,14 @@ use lib.Seq.{ext-getD, take-suc, take-all, getD-take, getD-set-same, getD-set-ot
 use lib.Dec.{eqb}
 use borrow.Author.Tests.{eqb-true, eq-eqb, not-false}
 use Rattle.model.specs.Places.{tab, some, at}
-use Rattle.model.specs.Run.{put, changed, raised, lowered}
+use Rattle.model.specs.Run.{Changes, put, changed, raised, lowered}
 use Rattle.model.proofs.Places.{length-tab, getD-tab, some-at, some-of}
 use Rattle.model.proofs.Changes.{length-put, put-unnamed, put-named}
 use Rattle.stepper.proofs.Cells.{Stored, here, else, stored}
 use Rattle.runs.specs.Runs.{changesOf, Named, Once}
+
+pub named-at : {ch : Changes} {n n′ : ℕ} → Named ch n → n′ ≡ n → Named ch n′
+named-at N e = rw e N
 
 put-last : (s ps vs : List ℕ) (p v : ℕ) → length vs ≡ length ps → put s (ps ++ (p ∷ [])) (vs ++ (v ∷ [])) ≡ set (put s ps vs) p v
 put-last s [] [] p v e = refl
@@ -27,10 +30,10 @@ put-last s (q ∷ ps) (x ∷ vs) p v e = put-last (set s q x) ps vs p v (omega a
 abbrev pub entering : List ℕ → List ℕ → List ℕ → ℕ → List ℕ
 entering s ps vs e = put s (take e ps) (take e vs)
 
-pub entering-more : (s ps vs : List ℕ) → length vs ≡ length ps → (e : ℕ) → e < length ps → set (entering s ps vs e) (at ps e) (at vs e) ≡ entering s ps vs (e + 1)
-entering-more s ps vs q e l =
+pub entering-more : (s ps vs : List ℕ) → length vs ≡ length ps → (e : ℕ) → e < length ps → {u : List ℕ} → u ≡ entering s ps vs e → set u (at ps e) (at vs e) ≡ entering s ps vs (e + 1)
+entering-more s ps vs q e l i =
     let m : e < length vs = omega arith in
-    rw (add-one, take-suc ps e 0, take-suc vs e 0)
+    rw (i, add-one, take-suc ps e 0, take-suc vs e 0)
     (sym (put-last s (take e ps) (take e vs) (at ps e) (at vs e) (length-take-le e vs (le-of-lt m) ∙ sym (length-take-le e ps (le-of-lt l)))))
 
 pub entering-all : (s ps vs : List ℕ) → length vs ≡ length ps → (e : ℕ) → length ps ≤ e → entering s ps vs e ≡ put s ps vs
@@ -73,13 +76,13 @@ module _ (s to : List ℕ) (p y : ℕ) (long : length to ≡ length s) (below : 
       go v l (here q f) = f ∙ e ∙ rw (raised-still, q, getD-set-same to p y 0 (omega arith)) (new (eqb (at s p) y))
       go v l (else q f) = f ∙ raised-at s to v l ∙ rw (getD-set-other to p v y 0 q)
 
-pub raising-more : (s ps vs : List ℕ) → Named (changesOf ps vs) (length s) → Once (changesOf ps vs) → (e x : ℕ) → e < length ps
-    → x ≡ cond (eqb (at (raised s (entering s ps vs e)) (at ps e)) (at vs e)) (at (raised s (entering s ps vs e)) (at ps e)) 2
-    → set (raised s (entering s ps vs e)) (at ps e) x ≡ raised s (entering s ps vs (e + 1))
-raising-more s ps vs N once e x l q =
-    raised-set s (entering s ps vs e) (at ps e) (at vs e) (length-put s (take e ps) (take e vs)) (N .below e l)
-    (put-unnamed s (take e ps) (take e vs) (at ps e) (λ k m r. unnamed k (omega (arith, length-take-le e ps (le-of-lt l))) r)) q
-    ∙ ap (raised s) (entering-more s ps vs (N .lengths) e l)
+pub raising-more : (s ps vs : List ℕ) → Named (changesOf ps vs) (length s) → Once (changesOf ps vs) → (e : ℕ) → e < length ps → {u : List ℕ} {x : ℕ}
+    → u ≡ raised s (entering s ps vs e) → x ≡ cond (eqb (at u (at ps e)) (at vs e)) (at u (at ps e)) 2 → set u (at ps e) x ≡ raised s (entering s ps vs (e + 1))
+raising-more s ps vs N once e l i q =
+    rw i
+    (raised-set s (entering s ps vs e) (at ps e) (at vs e) (length-put s (take e ps) (take e vs)) (N .below e l)
+    (put-unnamed s (take e ps) (take e vs) (at ps e) (λ k m r. unnamed k (omega (arith, length-take-le e ps (le-of-lt l))) r)) (rw i at q))
+    ∙ ap (raised s) (entering-more s ps vs (N .lengths) e l refl)
   where
     unnamed : (k : ℕ) → k < e → at (take e ps) k ≡ at ps e → ⊥
     unnamed k m r = once k e m l (sym (getD-take e ps k 0 m) ∙ r)

@@ -51,7 +51,7 @@ loop-less c = search needs
 
 -- src/lib.rt:34:5
 loop-again : tie.Need-loop-again Inv-loop μ-loop
-loop-again c = (omega arith, simp length-set (c .before .before .before .loop .inv .1), ap (λ (u : List ℕ). set u _ _) (c .before .before .before .loop .inv .2) ∙ entering-more _ _ _ (c .before .before .before .before .pre .lengths) _ (omega arith))
+loop-again c = (omega arith, simp length-set (c .before .before .before .loop .inv .1), entering-more _ _ _ (c .before .before .before .before .pre .lengths) (c .before .before .before .loop .e) (omega arith) (c .before .before .before .loop .inv .2))
 
 -- src/lib.rt:29:1
 same-length : tie.Need-same-length Inv-loop μ-loop

@@ -61,7 +61,7 @@ loop-less c = search needs
 
 -- src/lib.rt:57:5
 loop-again : tie.Need-loop-again Inv-loop μ-loop
-loop-again c = (omega arith, simp length-set (c .before .before .before .before .before .loop .inv .1), ap (λ (u : List ℕ). set u _ _) (c .before .before .before .before .before .loop .inv .2) ∙ raising-more _ _ _ (c .before .before .before .before .before .before .before .before .before .pre .0) (c .before .before .before .before .before .before .before .before .before .pre .1) _ _ (omega arith) (rw (c .before .before .before .before .before .loop .inv .2) at (c .raised-state .ensures)))
+loop-again c = (omega arith, simp length-set (c .before .before .before .before .before .loop .inv .1), raising-more _ _ _ (c .before .before .before .before .before .before .before .before .before .pre .0) (c .before .before .before .before .before .before .before .before .before .pre .1) (c .before .before .before .before .before .loop .e) (omega arith) (c .before .before .before .before .before .loop .inv .2) (c .raised-state .ensures))
 
 -- src/lib.rt:52:1
 same-length : tie.Need-same-length Inv-loop μ-loop
