@@ -2,7 +2,7 @@
 use Prim.Native.Nat.{ℕ, zero, suc, _+_, _-_, _<_}
 use native.Mathlib.Omega.{arith}
 use native.Mathlib.Numerals.{add-one}
-use mathlib.Core.Path.{_≡_, refl, sym, ap, _∙_, subst}
+use mathlib.Core.Path.{_≡_, refl, sym, ap, _∙_}
 use mathlib.Core.Bool.{Bool, true, false, not, cond, false≢true}
 use mathlib.Core.List.{List}
 use lib.ListN.{length}
@@ -42,7 +42,7 @@ same-count s r e = go (same r s) refl
         eq-eqb _ _ (count-never (length s) (λ v. not (eqb (at r v) (at s v))) (λ v l. ap not (eq-eqb (at r v) (at s v) (ap (λ (x : List ℕ). at x v) (same-true r s h)))))
     go false h =
         ne-eqb _ _ (λ z. same-false r s h
-          (ext-getD 0 r s e (λ v l. eqb-true _ _ (not-false _ (never-count (length s) (λ i. not (eqb (at r i) (at s i))) z v (omega arith))))))
+        (ext-getD 0 r s e (λ v l. eqb-true _ _ (not-false _ (never-count (length s) (λ i. not (eqb (at r i) (at s i))) z v (omega arith))))))
 
 module _ (f : List ℕ → List ℕ) where
   -- steps with one more left, by whether the state is settled

@@ -1,7 +1,7 @@
 -- From steps until settled to the unit run and the ternary run. Assumes nothing.
 use Prim.Native.Nat.{ℕ, zero, suc, _≤_, _<_}
 use native.Mathlib.Omega.{arith}
-use mathlib.Core.Path.{_≡_, refl, sym, ap, _∙_}
+use mathlib.Core.Path.{_≡_, ap, _∙_}
 use mathlib.Core.Bool.{Bool}
 use mathlib.Core.List.{List}
 use lib.ListN.{length}
@@ -47,7 +47,7 @@ module _ {net : Net} {a₀ a a₁ z w₀ w₁ w₂ : List ℕ} {b c : Bool} {k l
   unfolding firstHalf secondHalf
   halved =
       let two : settle (step net) (nodes net) 0 a₁ ≡ secondHalf (nodes net) (step net) s (changesOf ps vs) =
-          ap (settle (step net) (nodes net) 0) (p₁ ∙ lowering s a ps vs (named-of q E sized) (E .once) long held ∙ ap (lowered s (put s ps vs)) from) in
+      ap (settle (step net) (nodes net) 0) (p₁ ∙ lowering s a ps vs (named-of q E sized) (E .once) long held ∙ ap (lowered s (put s ps vs)) from) in
       record {
         first = h₁ .count ∙ ap (λ (x : List ℕ). settle (step net) (nodes net) 0 x .count) p₀;
         second = h₂ .count ∙ ap (λ (x : Ran). x .count) two;

@@ -1,13 +1,13 @@
 -- `stepper::store` meets its contract: the nodes passed have their next states. Assumes nothing.
-use Rattle.model.specs.Places.{at}
 use Prim.Native.Nat.{_-_, _≤_}
+use native.Mathlib.Nat.{le-antisymm}
+use native.Mathlib.Omega.{arith}
 use mathlib.Core.Path.{_≡_, refl, _∙_}
 use lib.ListN.{length, length-set}
-use native.Mathlib.Nat.{le-antisymm}
+use borrow.Author.Needs.{needs}
+use Rattle.model.specs.Places.{at}
 use Rattle.stepper.specs.Start.{Written}
 use Rattle.stepper.proofs.Cells.{written-none, written-more, written-end, written-all}
-use borrow.Author.Needs.{needs}
-use native.Mathlib.Omega.{arith}
 use Rattle.stepper.proofs.store.Statement.{statement}
 use Rattle.stepper.proofs.store.Tie as tie
 
@@ -24,10 +24,14 @@ mul-states : tie.Need-mul-states Inv-loop μ-loop
 mul-states c = search needs
 
 shared-slice-read-states : tie.Need-shared-slice-read-states Inv-loop μ-loop
-shared-slice-read-states c = omega (arith, c .before .before .before .pre .0, c .before .before .loop .inv .1)
+shared-slice-read-states c =
+    let start = c .before .before .before in
+    omega (arith, start .pre .0, c .before .before .loop .inv .1)
 
 cast-states : tie.Need-cast-states Inv-loop μ-loop
-cast-states c = omega (arith, c .before .before .before .pre .1 (c .before .before .loop .v) (omega (arith, c .before .before .loop .inv .1)))
+cast-states c =
+    let start = c .before .before .before in
+    omega (arith, start .pre .1 (c .before .before .loop .v) (omega (arith, c .before .before .loop .inv .1)))
 
 slice-write-states : tie.Need-slice-write-states Inv-loop μ-loop
 slice-write-states c = search needs

@@ -1,11 +1,11 @@
 -- `stepper::relax::conducts` meets its contract: by the table of how a transistor stands. Assumes nothing.
 use Prim.Native.Nat.{ℕ, zero, suc, _≤_, _<_}
+use native.Mathlib.Omega.{arith}
 use mathlib.Core.Path.{_≡_, refl}
 use mathlib.Core.Bool.{Bool, true, not}
 use lib.Dec.{eqb}
 use Rattle.model.specs.Net.{stand}
 use Rattle.model.specs.Ways.{choose}
-use native.Mathlib.Omega.{arith}
 use Rattle.stepper.proofs.relax.conducts.Statement.{statement}
 use Rattle.stepper.proofs.relax.conducts.Tie as tie
 

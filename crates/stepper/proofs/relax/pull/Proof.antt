@@ -1,9 +1,9 @@
 -- `stepper::relax::pull` meets its contract: each way out is a reason to stay, or the lift. Assumes nothing.
+use native.Mathlib.Omega.{arith}
 use mathlib.Core.Path.{sym, _∙_}
 use mathlib.Core.Bool.{true≢false}
-use Rattle.stepper.specs.Relax.{still, moved}
-use native.Mathlib.Omega.{arith}
 use borrow.Author.Needs.{needs}
+use Rattle.stepper.specs.Relax.{still, moved}
 use Rattle.stepper.proofs.relax.pull.Statement.{statement}
 use Rattle.stepper.proofs.relax.pull.Tie as tie
 
@@ -50,7 +50,9 @@ slice-read-if3 : tie.Need-slice-read-if3
 slice-read-if3 c = search needs
 
 returns-3 : tie.Need-returns-3
-returns-3 c = still (λ f h. absurd (omega (arith, c .before .before .before .before .lesser .ensures)))
+returns-3 c =
+    let after-lesser = c .before .before .before .before .lesser in
+    still (λ f h. absurd (omega (arith, after-lesser .ensures)))
 
 add-work : tie.Need-add-work
 add-work c = search needs
@@ -65,7 +67,11 @@ same-length : tie.Need-same-length
 same-length c = search needs
 
 returns-4 : tie.Need-returns-4
-returns-4 c = moved (sym (c .before .before .before .before .before .before .before .is-input .ensures) ∙ c .before .before .before .before .before .before .if1 .left) (c .before .before .before .before .lesser .ensures) (omega arith) (omega arith) (omega arith)
+returns-4 c =
+    let after-is-input = c .before .before .before .before .before .before .before .is-input in
+    let after-if1 = c .before .before .before .before .before .before .if1 in
+    let after-lesser = c .before .before .before .before .lesser in
+    moved (sym (after-is-input .ensures) ∙ after-if1 .left) (after-lesser .ensures) (omega arith) (omega arith) (omega arith)
 
 pub pull-spec : {M : Type 1} → statement M
 pull-spec =

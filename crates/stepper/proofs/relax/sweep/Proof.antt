@@ -1,13 +1,13 @@
 -- `stepper::relax::sweep` meets its contract: the transistors passed lifted so often, or have nothing to lift. Assumes nothing.
 use Prim.Native.Nat.{_-_, _≤_}
 use native.Mathlib.Nat.{le-antisymm}
+use native.Mathlib.Omega.{arith}
 use mathlib.Core.Path.{_≡_, refl, _∙_}
 use lib.ListN.{length}
+use borrow.Author.Needs.{needs}
 use Rattle.stepper.specs.Step.{netOf}
 use Rattle.stepper.specs.Relax.{flow, Swept}
 use Rattle.stepper.proofs.Lifts.{lifts-length, swept-none, swept-more, swept-end}
-use borrow.Author.Needs.{needs}
-use native.Mathlib.Omega.{arith}
 use Rattle.stepper.proofs.relax.sweep.Statement.{statement}
 use Rattle.stepper.proofs.relax.sweep.Tie as tie
 
@@ -21,10 +21,14 @@ loop-holds : tie.Need-loop-holds Inv-loop μ-loop
 loop-holds c = (omega arith, refl, swept-none _)
 
 relax-one-requires : tie.Need-relax-one-requires Inv-loop μ-loop
-relax-one-requires c κs = (rw (c .before .before .loop .inv .1) (c .before .before .before .before .before .before .before .before .before .before .pre .0), c .before .before .before .before .before .before .before .before .before .before .pre .1, c .before .loop-test .taken)
+relax-one-requires c κs =
+    let start = c .before .before .before .before .before .before .before .before .before .before in
+    (rw (c .before .before .loop .inv .1) (start .pre .0), start .pre .1, c .before .loop-test .taken)
 
 add-raised : tie.Need-add-raised Inv-loop μ-loop
-add-raised c = omega (arith, c .before .before .relax-one .ensures .few, c .before .before .before .before .before .loop .inv .2 .few)
+add-raised c =
+    let turn = c .before .before .before .before .before .loop in
+    omega (arith, c .before .before .relax-one .ensures .few, turn .inv .2 .few)
 
 add-t : tie.Need-add-t Inv-loop μ-loop
 add-t c = search needs
@@ -33,7 +37,9 @@ loop-less : tie.Need-loop-less Inv-loop μ-loop
 loop-less c = search needs
 
 loop-again : tie.Need-loop-again Inv-loop μ-loop
-loop-again c = (omega arith, lifts-length _ (c .before .before .relax-one .ensures .lifts) ∙ c .before .before .before .before .before .loop .inv .1, swept-more _ (c .before .before .before .before .before .loop .inv .2) (c .before .before .relax-one .ensures))
+loop-again c =
+    let turn = c .before .before .before .before .before .loop in
+    (omega arith, lifts-length _ (c .before .before .relax-one .ensures .lifts) ∙ turn .inv .1, swept-more _ (turn .inv .2) (c .before .before .relax-one .ensures))
 
 same-length : tie.Need-same-length Inv-loop μ-loop
 same-length c = c .before .loop .inv .1

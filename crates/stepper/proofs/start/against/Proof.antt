@@ -1,9 +1,9 @@
 -- `stepper::start::against` meets its contract: by the definition of what a table begins with. Assumes nothing.
 use Prim.Native.Nat.{ℕ, _≤_, _<_}
 use mathlib.Core.Path.{_≡_, sym, ap, _∙_}
-use borrow.Author.Tests.{eq-eqb, ne-eqb, lt-leb, le-leb}
 use mathlib.Core.Bool.{Bool, true, false, not, cond, _&&_, _||_}
 use lib.Dec.{leb}
+use borrow.Author.Tests.{eq-eqb, ne-eqb, lt-leb, le-leb}
 use borrow.Author.Needs.{needs}
 use Rattle.stepper.proofs.start.against.Statement.{statement}
 use Rattle.stepper.proofs.start.against.Tie as tie
@@ -37,7 +37,11 @@ is-input-requires : tie.Need-is-input-requires
 is-input-requires c κs = search needs
 
 returns-2 : tie.Need-returns-2
-returns-2 c = c .before .before .before .strength .ensures ∙ whole _ _ _ _ (differs (ne-eqb _ _ (λ e. c .before .before .before .before .if1 .left (c .before .before .before .before .before .source-state .ensures ∙ e)))) (sym (c .before .is-input .ensures) ∙ c .if2 .taken)
+returns-2 c =
+    let after-strength = c .before .before .before .strength in
+    let after-if1 = c .before .before .before .before .if1 in
+    let after-source-state = c .before .before .before .before .before .source-state in
+    after-strength .ensures ∙ whole _ _ _ _ (differs (ne-eqb _ _ (λ e. after-if1 .left (after-source-state .ensures ∙ e)))) (sym (c .before .is-input .ensures) ∙ c .if2 .taken)
 
 mul-if3 : tie.Need-mul-if3
 mul-if3 c = search needs
@@ -46,10 +50,20 @@ shared-slice-read-if3 : tie.Need-shared-slice-read-if3
 shared-slice-read-if3 c = search needs
 
 returns-3 : tie.Need-returns-3
-returns-3 c = low _ _ _ _ (differs (ne-eqb _ _ (λ e. c .before .before .before .before .before .before .if1 .left (c .before .before .before .before .before .before .before .source-state .ensures ∙ e)))) (sym (c .before .before .before .is-input .ensures) ∙ c .before .before .if2 .left) (rw (c .before .before .before .before .before .strength .ensures) at (c .if3 .taken))
+returns-3 c =
+    let after-if1 = c .before .before .before .before .before .before .if1 in
+    let after-source-state = c .before .before .before .before .before .before .before .source-state in
+    let after-is-input = c .before .before .before .is-input in
+    let after-strength = c .before .before .before .before .before .strength in
+    low _ _ _ _ (differs (ne-eqb _ _ (λ e. after-if1 .left (after-source-state .ensures ∙ e)))) (sym (after-is-input .ensures) ∙ c .before .before .if2 .left) (rw (after-strength .ensures) at (c .if3 .taken))
 
 returns-4 : tie.Need-returns-4
-returns-4 c = c .before .before .before .before .before .strength .ensures ∙ enough _ _ _ _ (differs (ne-eqb _ _ (λ e. c .before .before .before .before .before .before .if1 .left (c .before .before .before .before .before .before .before .source-state .ensures ∙ e)))) (sym (c .before .before .before .is-input .ensures) ∙ c .before .before .if2 .left) (rw (c .before .before .before .before .before .strength .ensures) at (c .if3 .left))
+returns-4 c =
+    let after-strength = c .before .before .before .before .before .strength in
+    let after-if1 = c .before .before .before .before .before .before .if1 in
+    let after-source-state = c .before .before .before .before .before .before .before .source-state in
+    let after-is-input = c .before .before .before .is-input in
+    after-strength .ensures ∙ enough _ _ _ _ (differs (ne-eqb _ _ (λ e. after-if1 .left (after-source-state .ensures ∙ e)))) (sym (after-is-input .ensures) ∙ c .before .before .if2 .left) (rw (after-strength .ensures) at (c .if3 .left))
 
 pub against-spec : {M : Type 1} → statement M
 against-spec =

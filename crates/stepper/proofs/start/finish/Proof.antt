@@ -1,12 +1,12 @@
 -- `stepper::start::finish` meets its contract: the tables that it reads lie behind what it writes. Assumes nothing.
 use Prim.Native.Nat.{_+_, _-_, _*_, _≤_}
+use native.Mathlib.Nat.{le-antisymm}
+use native.Mathlib.Omega.{arith}
 use mathlib.Core.Path.{_≡_, refl}
 use lib.ListN.{length, length-set}
-use native.Mathlib.Nat.{le-antisymm}
+use borrow.Author.Needs.{needs}
 use Rattle.stepper.specs.Start.{Written, Bytes, alone, next}
 use Rattle.stepper.proofs.Cells.{written-none, written-more, written-end, bytes-more}
-use borrow.Author.Needs.{needs}
-use native.Mathlib.Omega.{arith}
 use Rattle.stepper.proofs.start.finish.Statement.{statement}
 use Rattle.stepper.proofs.start.finish.Tie as tie
 
@@ -38,7 +38,10 @@ loop-less : tie.Need-loop-less Inv-loop μ-loop
 loop-less c = search needs
 
 loop-again : tie.Need-loop-again Inv-loop μ-loop
-loop-again c = (omega arith, simp length-set (c .before .before .before .loop .inv .1), written-more _ (omega arith) (omega arith) (rw (c .before .before .before .loop .inv .2 .after (length (c .before .before .before .before .before .before .before .args .kinds .now) + c .before .before .before .loop .v) (omega arith), c .before .before .before .loop .inv .2 .after (2 * length (c .before .before .before .before .before .before .before .args .kinds .now) + c .before .before .before .loop .v) (omega arith)) at (c .next-state .ensures)) (c .before .before .before .loop .inv .2), bytes-more (c .before .before .before .loop .work) (c .before .before .before .loop .v) (c .next-state .result) (omega arith) (omega arith) (c .before .before .before .loop .inv .3))
+loop-again c =
+    let turn = c .before .before .before .loop in
+    let start = c .before .before .before .before .before .before .before in
+    (omega arith, simp length-set (turn .inv .1), written-more _ (omega arith) (omega arith) (rw (turn .inv .2 .after (length (start .args .kinds .now) + turn .v) (omega arith), turn .inv .2 .after (2 * length (start .args .kinds .now) + turn .v) (omega arith)) at (c .next-state .ensures)) (turn .inv .2), bytes-more (turn .work) (turn .v) (c .next-state .result) (omega arith) (omega arith) (turn .inv .3))
 
 same-length : tie.Need-same-length Inv-loop μ-loop
 same-length c = c .before .loop .inv .1

@@ -27,7 +27,9 @@ shared-slice-read-if2 : tie.Need-shared-slice-read-if2
 shared-slice-read-if2 c = search needs
 
 returns-2 : tie.Need-returns-2
-returns-2 c = simp (sym (c .before .before .before .is-input .ensures) ∙ c .before .before .if1 .left, eq-eqb _ _ (c .if2 .taken))
+returns-2 c =
+    let after-is-input = c .before .before .before .is-input in
+    simp (sym (after-is-input .ensures) ∙ c .before .before .if1 .left, eq-eqb _ _ (c .if2 .taken))
 
 mul-if3 : tie.Need-mul-if3
 mul-if3 c = search needs
@@ -42,10 +44,16 @@ shared-slice-read-if3 : tie.Need-shared-slice-read-if3
 shared-slice-read-if3 c = search needs
 
 returns-3 : tie.Need-returns-3
-returns-3 c = simp (sym (c .before .before .before .before .before .is-input .ensures) ∙ c .before .before .before .before .if1 .left, ne-eqb _ _ (c .before .before .if2 .left), eq-eqb _ _ (c .if3 .taken))
+returns-3 c =
+    let after-is-input = c .before .before .before .before .before .is-input in
+    let after-if1 = c .before .before .before .before .if1 in
+    simp (sym (after-is-input .ensures) ∙ after-if1 .left, ne-eqb _ _ (c .before .before .if2 .left), eq-eqb _ _ (c .if3 .taken))
 
 returns-4 : tie.Need-returns-4
-returns-4 c = simp (sym (c .before .before .before .before .before .is-input .ensures) ∙ c .before .before .before .before .if1 .left, ne-eqb _ _ (c .before .before .if2 .left), ne-eqb _ _ (c .if3 .left))
+returns-4 c =
+    let after-is-input = c .before .before .before .before .before .is-input in
+    let after-if1 = c .before .before .before .before .if1 in
+    simp (sym (after-is-input .ensures) ∙ after-if1 .left, ne-eqb _ _ (c .before .before .if2 .left), ne-eqb _ _ (c .if3 .left))
 
 pub next-state-spec : {M : Type 1} → statement M
 next-state-spec =

@@ -1,13 +1,13 @@
 -- `stepper::start::start_against` meets its contract: the definite strengths, which it reads, stay as they came. Assumes nothing.
-use Rattle.model.specs.Places.{at}
 use Prim.Native.Nat.{_-_, _≤_}
+use native.Mathlib.Nat.{le-antisymm}
+use native.Mathlib.Omega.{arith}
 use mathlib.Core.Path.{_≡_, refl}
 use lib.ListN.{length, length-set}
-use native.Mathlib.Nat.{le-antisymm}
+use borrow.Author.Needs.{needs}
+use Rattle.model.specs.Places.{at}
 use Rattle.stepper.specs.Start.{Written, alone, begins}
 use Rattle.stepper.proofs.Cells.{written-none, written-more, written-end}
-use borrow.Author.Needs.{needs}
-use native.Mathlib.Omega.{arith}
 use Rattle.stepper.proofs.start.start_against.Statement.{statement}
 use Rattle.stepper.proofs.start.start_against.Tie as tie
 
@@ -39,7 +39,9 @@ loop-less : tie.Need-loop-less Inv-loop μ-loop
 loop-less c = search needs
 
 loop-again : tie.Need-loop-again Inv-loop μ-loop
-loop-again c = (omega arith, simp length-set (c .before .before .before .loop .inv .1), written-more _ refl (omega arith) (rw (c .before .before .before .loop .inv .2 .before (c .before .before .before .loop .v) (omega arith)) at (c .against .ensures)) (c .before .before .before .loop .inv .2))
+loop-again c =
+    let turn = c .before .before .before .loop in
+    (omega arith, simp length-set (turn .inv .1), written-more _ refl (omega arith) (rw (turn .inv .2 .before (turn .v) (omega arith)) at (c .against .ensures)) (turn .inv .2))
 
 same-length : tie.Need-same-length Inv-loop μ-loop
 same-length c = c .before .loop .inv .1

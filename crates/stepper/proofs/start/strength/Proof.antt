@@ -18,10 +18,14 @@ shared-slice-read-if2 : tie.Need-shared-slice-read-if2
 shared-slice-read-if2 c = search needs
 
 returns-2 : tie.Need-returns-2
-returns-2 c = simp (sym (c .before .before .before .is-input .ensures) ∙ c .before .before .if1 .left, eq-eqb _ _ (c .if2 .taken))
+returns-2 c =
+    let after-is-input = c .before .before .before .is-input in
+    simp (sym (after-is-input .ensures) ∙ c .before .before .if1 .left, eq-eqb _ _ (c .if2 .taken))
 
 returns-3 : tie.Need-returns-3
-returns-3 c = simp (sym (c .before .before .before .is-input .ensures) ∙ c .before .before .if1 .left, ne-eqb _ _ (c .if2 .left))
+returns-3 c =
+    let after-is-input = c .before .before .before .is-input in
+    simp (sym (after-is-input .ensures) ∙ c .before .before .if1 .left, ne-eqb _ _ (c .if2 .left))
 
 pub strength-spec : {M : Type 1} → statement M
 strength-spec =

@@ -1,12 +1,12 @@
 -- `stepper::start::zero` meets its contract: the cells passed are 0, the others as they came. Assumes nothing.
 use Prim.Native.Nat.{_-_, _≤_}
+use native.Mathlib.Nat.{le-antisymm}
+use native.Mathlib.Omega.{arith}
 use mathlib.Core.Path.{_≡_, refl}
 use lib.ListN.{length, length-set}
-use native.Mathlib.Nat.{le-antisymm}
+use borrow.Author.Needs.{needs}
 use Rattle.stepper.specs.Start.{Written}
 use Rattle.stepper.proofs.Cells.{written-none, written-more, written-end}
-use borrow.Author.Needs.{needs}
-use native.Mathlib.Omega.{arith}
 use Rattle.stepper.proofs.start.zero.Statement.{statement}
 use Rattle.stepper.proofs.start.zero.Tie as tie
 

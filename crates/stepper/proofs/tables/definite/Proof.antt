@@ -1,9 +1,9 @@
 -- `stepper::tables::definite` meets its contract: one relaxation, over zeros. Assumes nothing.
-use mathlib.Core.Logic.{inr}
-use Rattle.stepper.proofs.Least.{definite, checked-with}
-use mathlib.Core.Path.{refl}
 use native.Mathlib.Omega.{arith}
+use mathlib.Core.Logic.{inr}
+use mathlib.Core.Path.{refl}
 use borrow.Author.Needs.{needs}
+use Rattle.stepper.proofs.Least.{definite, checked-with}
 use Rattle.stepper.proofs.tables.definite.Statement.{statement}
 use Rattle.stepper.proofs.tables.definite.Tie as tie
 
@@ -20,13 +20,20 @@ mul-relax : tie.Need-mul-relax
 mul-relax c = search needs
 
 relax-requires : tie.Need-relax-requires
-relax-requires c κs = (checked-with (c .before .before .before .before .before .before .before .before .before .before .before .before .before .before .before .before .pre) refl (omega (arith, c .before .before .before .start-definite .kept, c .before .before .before .before .before .before .before .zero .kept)), record { table-fits = omega arith; floor-fits = omega arith; apart = inr (omega arith) })
+relax-requires c κs =
+    let start = c .before .before .before .before .before .before .before .before .before .before .before .before .before .before .before .before in
+    let after-start-definite = c .before .before .before .start-definite in
+    let after-zero = c .before .before .before .before .before .before .before .zero in
+    (checked-with (start .pre) refl (omega (arith, after-start-definite .kept, after-zero .kept)), record { table-fits = omega arith; floor-fits = omega arith; apart = inr (omega arith) })
 
 same-length : tie.Need-same-length
 same-length c = search needs
 
 returns : tie.Need-returns
-returns c = definite _ _ (c .before .before .before .before .before .before .before .before .before .before .zero .ensures) (c .before .before .before .before .before .before .start-definite .ensures) (c .before .before .relax .ensures)
+returns c =
+    let after-zero = c .before .before .before .before .before .before .before .before .before .before .zero in
+    let after-start-definite = c .before .before .before .before .before .before .start-definite in
+    definite _ _ (after-zero .ensures) (after-start-definite .ensures) (c .before .before .relax .ensures)
 
 pub definite-spec : {M : Type 1} → statement M
 definite-spec =
