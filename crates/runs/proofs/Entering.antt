@@ -14,7 +14,7 @@ use Rattle.model.specs.Places.{tab, some, at}
 use Rattle.model.specs.Run.{Changes, put, changed, raised, lowered}
 use Rattle.model.proofs.Places.{length-tab, getD-tab, some-at, some-of}
 use Rattle.model.proofs.Changes.{length-put, put-unnamed, put-named}
-use Rattle.stepper.proofs.Cells.{Stored, here, else, stored}
+use Rattle.stepper.proofs.Stores.{Stored, here, else, stored}
 use Rattle.runs.specs.Runs.{changesOf, Named, Once}
 
 pub named-at : {ch : Changes} {n n′ : ℕ} → Named ch n → n′ ≡ n → Named ch n′

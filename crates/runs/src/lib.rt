@@ -2,7 +2,7 @@
 // that were checked.
 ghost use mathlib.Core.Path.{_≡_};
 ghost use mathlib.Core.Bool.{cond};
-ghost use Prim.Native.Nat.{ℕ, _≤_, _<_};
+ghost use Prim.Native.Nat.{_≤_};
 ghost use lib.ListN.{length};
 ghost use lib.Dec.{eqb};
 ghost use Rattle.model.specs.Bounds.{highestLimit};
@@ -66,7 +66,7 @@ pub fn clear(work: &mut [u16], used: usize)
     requires { ⌜ used ≤ length (now work) ⌝ }
     ensures { λ r. ⌜ now (work .exit) ≡ cleared used (now (work .entry)) ⌝ }
 {
-    stepper::start::zero(work, 0, used);
+    stepper::cells::zero(work, 0, used);
 }
 
 // One step; how many nodes differ after it.

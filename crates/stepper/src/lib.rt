@@ -3,7 +3,7 @@
 // The work area of n nodes: definite strengths in [0, n), the tables against 0 and against 1 in [n, 2n) and [2n, 3n), a floor of
 // zeros in [3n, 4n); at the end the next states in [0, n).
 ghost use mathlib.Core.Path.{_≡_};
-ghost use Prim.Native.Nat.{ℕ, _+_, _*_, _≤_, _<_};
+ghost use Prim.Native.Nat.{_≤_};
 ghost use lib.ListN.{length};
 ghost use lib.Dec.{eqb};
 ghost use mathlib.Core.Bool.{not, cond};
@@ -14,9 +14,10 @@ ghost use Rattle.model.specs.Entries.{altered};
 ghost use Rattle.stepper.specs.Step.{netOf, Checked, Evaluated};
 ghost use Rattle.stepper.specs.Start.{Bytes};
 
-pub mod relax;
-pub mod start;
-pub mod tables;
+pub mod cells;
+mod relax;
+mod start;
+mod tables;
 
 // The one place that says which kinds are inputs.
 pub fn is_input(kind: u8) -> bool

@@ -1,8 +1,7 @@
 // Strengths pass along transistors until nothing rises: a table of the work area over a floor, which is another table of it.
 ghost use mathlib.Core.Path.{_≡_};
-ghost use Prim.Native.Nat.{ℕ, min, _+_, _≤_, _<_};
+ghost use Prim.Native.Nat.{min, _+_, _<_};
 ghost use lib.ListN.{length};
-ghost use Rattle.model.specs.Places.{at};
 ghost use Rattle.model.specs.Net.{inputs, stand};
 ghost use Rattle.model.specs.Ways.{choose};
 ghost use Rattle.stepper.specs.Step.{netOf, Checked};
