@@ -14,6 +14,10 @@ pub record Net : Type 0 where
   pub sources : List ℕ
   pub drains : List ℕ
 
+-- the lent tables as a network
+abbrev pub netOf : List ℕ → List ℕ → List ℕ → List ℕ → List ℕ → Net
+netOf kinds types gates sources drains = record { kinds = kinds; types = types; gates = gates; sources = sources; drains = drains }
+
 abbrev pub nodes : Net → ℕ
 nodes net = length (net .kinds)
 
