@@ -10,10 +10,6 @@ use Rattle.model.specs.Run.{Changes, Ran, settled, firstHalf, secondHalf}
 use Rattle.model.specs.Rules.{cells}
 use Rattle.model.specs.Entries.{altered}
 
--- the lent lists as a change list
-abbrev pub changesOf : List ℕ → List ℕ → Changes
-changesOf nodes news = record { places = nodes; values = news }
-
 -- a state for each entry, and entries that name nodes below n
 pub record Named (ch : Changes) (n : ℕ) : Type 0 where
   pub lengths : length (ch .values) ≡ length (ch .places)

@@ -6,12 +6,12 @@ ghost use Prim.Native.Nat.{_≤_};
 ghost use lib.ListN.{length};
 ghost use lib.Dec.{eqb};
 ghost use Rattle.model.specs.Bounds.{highestLimit};
-ghost use Rattle.model.specs.Net.{isInput};
-ghost use Rattle.model.specs.Run.{put, raised, settle, limitOf, unitSteps};
+ghost use Rattle.model.specs.Net.{isInput, netOf};
+ghost use Rattle.model.specs.Run.{put, raised, settle, limitOf, unitSteps, changesOf};
 ghost use Rattle.model.specs.Entries.{cleared};
 ghost use Rattle.model.specs.Demands.{Enterable};
-ghost use Rattle.stepper.specs.Step.{netOf, Checked};
-ghost use Rattle.runs.specs.Runs.{changesOf, Named, Once, Stepped, Told, Ended, Halved};
+ghost use Rattle.stepper.specs.Step.{Checked};
+ghost use Rattle.runs.specs.Runs.{Named, Once, Stepped, Told, Ended, Halved};
 
 // How steps ended: settled or not, and after how many.
 pub struct Ran {
@@ -138,7 +138,7 @@ pub fn limit_of(limit: u32) -> u32
     ensures { λ r. ⌜ r ≡ limitOf limit ⌝ }
 {
     if limit == 0 {
-        return 100;
+        return model::DEFAULT_LIMIT;
     }
     limit
 }

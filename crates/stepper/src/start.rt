@@ -12,7 +12,7 @@ pub fn strength(kinds: &[u8], v: usize) -> u16
     requires { ⌜ v < length (now kinds) ⌝ }
     ensures { λ r. ⌜ r ≡ own (now (kinds .entry)) v ⌝ }
 {
-    if crate::is_input(kinds[v]) {
+    if model::is_input(kinds[v]) {
         return 3;
     }
     if kinds[v] == 1 {
@@ -41,7 +41,7 @@ pub fn against(kinds: &[u8], states: &[u8], work: &[u16], v: usize, b: u8) -> u1
         return 0;
     }
     let x = strength(kinds, v);
-    if crate::is_input(kinds[v]) {
+    if model::is_input(kinds[v]) {
         return x;
     }
     if x < work[v] {
@@ -56,7 +56,7 @@ pub fn next_state(kinds: &[u8], states: &[u8], work: &[u16], v: usize) -> u8
     ensures { λ r. ⌜ r ≡ next (alone (now (kinds .entry))) (now (states .entry)) (now (work .entry)) v ⌝ }
 {
     let n = kinds.len();
-    if crate::is_input(kinds[v]) {
+    if model::is_input(kinds[v]) {
         return states[v];
     }
     if work[n + v] == 0 {

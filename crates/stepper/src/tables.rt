@@ -2,7 +2,8 @@
 // from 0 and from 1.
 ghost use Prim.Native.Nat.{_+_, _*_, _≤_};
 ghost use lib.ListN.{length};
-ghost use Rattle.stepper.specs.Step.{netOf, Checked};
+ghost use Rattle.model.specs.Net.{netOf};
+ghost use Rattle.stepper.specs.Step.{Checked};
 ghost use Rattle.stepper.specs.Start.{Definite, Against};
 
 // The definite strengths, in work[0..n]: over closed transistors, with no floor, for which zeros stand in work[3n..4n].

@@ -5,9 +5,8 @@ use native.Mathlib.Omega.{arith}
 use mathlib.Core.Path.{_≡_, refl, _∙_}
 use lib.ListN.{length}
 use borrow.Author.Needs.{needs}
-use Rattle.model.specs.Net.{step}
+use Rattle.model.specs.Net.{step, netOf}
 use Rattle.model.specs.Run.{settle}
-use Rattle.stepper.specs.Step.{netOf}
 use Rattle.stepper.proofs.Least.{checked-with}
 use Rattle.runs.specs.Runs.{Spared}
 use Rattle.runs.proofs.Steps.{ends, stops, goes}

@@ -2,7 +2,7 @@
 use Prim.Native.Nat.{ℕ}
 use native.Mathlib.Omega.{arith}
 use lib.ListN.{length}
-use Rattle.stepper.specs.Step.{netOf}
+use Rattle.model.specs.Net.{netOf}
 use Rattle.stepper.specs.Relax.{flow, Lifts, none}
 use Rattle.stepper.proofs.Lifts.{room, joined, lifts-length, lifts-room, relaxed}
 use Rattle.stepper.proofs.relax.relax.Statement.{statement}

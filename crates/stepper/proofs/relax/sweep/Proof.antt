@@ -5,7 +5,7 @@ use native.Mathlib.Omega.{arith}
 use mathlib.Core.Path.{_≡_, refl, _∙_}
 use lib.ListN.{length}
 use borrow.Author.Needs.{needs}
-use Rattle.stepper.specs.Step.{netOf}
+use Rattle.model.specs.Net.{netOf}
 use Rattle.stepper.specs.Relax.{flow, Swept}
 use Rattle.stepper.proofs.Lifts.{lifts-length, swept-none, swept-more, swept-end}
 use Rattle.stepper.proofs.relax.sweep.Statement.{statement}
