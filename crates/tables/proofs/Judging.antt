@@ -1,0 +1,51 @@
+-- How the judges go through the rules: past those that are not broken, to the first that is. Assumes nothing.
+use Prim.Native.Nat.{ℕ, _≤_, _<_}
+use native.Mathlib.Omega.{arith}
+use mathlib.Core.Path.{_≡_, refl, ap, _∙_, sym}
+use mathlib.Core.Bool.{Bool, true, false}
+use mathlib.Core.List.{List, [], _∷_, _++_}
+use lib.Dec.{ltb}
+use borrow.Author.Tests.{lt-ltb, le-ltb}
+use Rattle.model.specs.Places.{any, first}
+use Rattle.model.specs.Rules.{Rule, judge, given, sizeRule}
+use Rattle.model.specs.declared.Answer.{Answer}
+use Rattle.model.specs.declared.Answer.the-variants.{Size}
+use Rattle.model.specs.declared.Verdict.{Verdict}
+use Rattle.model.specs.declared.Verdict.the-variants.{Accepted, Refused}
+
+-- rules before others: their refusal is the refusal of all, and their acceptance leaves the others
+pub judge-append : (rs qs : List Rule) → judge (rs ++ qs) ≡ given (judge rs) Refused (judge qs)
+judge-append [] qs = refl
+judge-append (r ∷ rs) qs = go (ltb (first (r .places) (r .breaks)) (r .places)) (judge-append rs qs)
+  where
+    a : Verdict
+    a = Refused (r .refusal (first (r .places) (r .breaks)))
+
+    go : (b : Bool) → judge (rs ++ qs) ≡ given (judge rs) Refused (judge qs)
+        → elim b as (λ x. Verdict) [ true ↦ a | false ↦ judge (rs ++ qs) ] ≡ given (elim b as (λ x. Verdict) [ true ↦ a | false ↦ judge rs ]) Refused (judge qs)
+    go true h = refl
+    go false h = h
+
+-- what a judge has found of the first rules, v, serves for all
+module _ (rs qs : List Rule) (v : Verdict) (e : v ≡ judge rs) where
+  pub refused-first : (a : Answer) → v ≡ Refused a → v ≡ judge (rs ++ qs)
+  refused-first a h = h ∙ sym (judge-append rs qs ∙ ap (λ (x : Verdict). given x Refused (judge qs)) (sym e ∙ h))
+
+  pub accepted-first : (u : Verdict) → v ≡ Accepted → u ≡ judge qs → u ≡ judge (rs ++ qs)
+  accepted-first u h k = k ∙ sym (judge-append rs qs ∙ ap (λ (x : Verdict). given x Refused (judge qs)) (sym e ∙ h))
+
+-- one rule: where the search for a place that breaks it ends
+module _ (r : Rule) (p : ℕ) (e : p ≡ first (r .places) (r .breaks)) where
+  pub rule-broken : p < r .places → Refused (r .refusal p) ≡ judge (r ∷ [])
+  rule-broken l = rw (judge, ← e, lt-ltb p (r .places) l) (ap (λ (q : ℕ). Refused (r .refusal q)) e)
+
+  pub rule-kept : r .places ≤ p → Accepted ≡ judge (r ∷ [])
+  rule-kept l = rw (judge, ← e, le-ltb p (r .places) l)
+
+-- the rule of the sizes, from what the code has found of its tests
+module _ (tests : List Bool) (rs : List Rule) (b : Bool) (e : b ≡ any tests) where
+  pub size-broken : b ≡ true → Refused Size ≡ judge (sizeRule tests ∷ rs)
+  size-broken h = rw (judge, first, ← e, h)
+
+  pub size-kept : (v : Verdict) → b ≡ false → v ≡ judge rs → v ≡ judge (sizeRule tests ∷ rs)
+  size-kept v h k = rw (judge, first, ← e, h) k
