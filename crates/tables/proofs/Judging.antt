@@ -7,9 +7,10 @@ use mathlib.Core.List.{List, [], _∷_, _++_}
 use lib.Dec.{ltb}
 use borrow.Author.Tests.{lt-ltb, le-ltb}
 use Rattle.model.specs.Places.{any, first}
-use Rattle.model.specs.Rules.{Rule, judge, given, sizeRule}
+use Rattle.model.specs.Rules.{Rule, judge, given, sizeRule, limitRule}
+use Rattle.model.specs.Bounds.{highestLimit}
 use Rattle.model.specs.declared.Answer.{Answer}
-use Rattle.model.specs.declared.Answer.the-variants.{Size}
+use Rattle.model.specs.declared.Answer.the-variants.{Size, Limit}
 use Rattle.model.specs.declared.Verdict.{Verdict}
 use Rattle.model.specs.declared.Verdict.the-variants.{Accepted, Refused}
 
@@ -49,3 +50,10 @@ module _ (tests : List Bool) (rs : List Rule) (b : Bool) (e : b ≡ any tests) w
 
   pub size-kept : (v : Verdict) → b ≡ false → v ≡ judge rs → v ≡ judge (sizeRule tests ∷ rs)
   size-kept v h k = rw (judge, first, ← e, h) k
+
+-- the rule of the step limit
+pub limit-broken : (limit : ℕ) (rs : List Rule) → highestLimit < limit → Refused Limit ≡ judge (limitRule limit ∷ rs)
+limit-broken limit rs l = rw (judge, first, lt-ltb highestLimit limit l)
+
+pub limit-kept : (limit : ℕ) (rs : List Rule) → limit ≤ highestLimit → (v : Verdict) → v ≡ judge rs → v ≡ judge (limitRule limit ∷ rs)
+limit-kept limit rs l v k = rw (judge, first, le-ltb highestLimit limit l) k

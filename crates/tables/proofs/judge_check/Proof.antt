@@ -1,27 +1,33 @@
+use mathlib.Core.Path.{sym, _∙_}
+use mathlib.Core.List.{[], _∷_}
+use Rattle.model.specs.Rules.{kindRule, wireRule, checkSizes, checkRules}
+use Rattle.tables.specs.Lent.{netOf}
+use Rattle.tables.proofs.Fitting.{check-sized}
+use Rattle.tables.proofs.Judging.{size-broken, size-kept}
 use native.Mathlib.Omega.{arith}
 use borrow.Author.Needs.{needs}
 use Rattle.tables.proofs.judge_check.Statement.{statement}
 use Rattle.tables.proofs.judge_check.Tie as tie
-use Rattle.tables.proofs.judge_check.Reads as reads
-use Rattle.tables.proofs.judge_check.Lts as lts
-use Rattle.tables.proofs.judge_tables.Reads as judge-tables-reads
-use Rattle.tables.proofs.sizes.wrong_check_sizes.Reads as wrong-check-sizes-reads
 
--- src/lib.rt:123:8
 wrong-check-sizes-requires : tie.Need-wrong-check-sizes-requires
 wrong-check-sizes-requires c κs = search needs
 
--- src/lib.rt:124:9
 returns : tie.Need-returns
-returns c = search needs
+unfolding checkRules
+returns c =
+    let a = c .before .before .before .before .before .before .before .args in
+    size-broken (checkSizes (netOf (a .kinds .now) (a .types .now) (a .gates .now) (a .sources .now) (a .drains .now))) (kindRule (a .kinds .now) ∷ wireRule (netOf (a .kinds .now) (a .types .now) (a .gates .now) (a .sources .now) (a .drains .now)) ∷ []) _ (c .before .wrong-check-sizes .ensures) (c .if1 .taken)
 
--- src/lib.rt:126:5
 judge-tables-requires : tie.Need-judge-tables-requires
-judge-tables-requires c κs = search needs
+judge-tables-requires c κs =
+    let a = c .before .before .before .before .before .before .before .args in
+    check-sized (netOf (a .kinds .now) (a .types .now) (a .gates .now) (a .sources .now) (a .drains .now)) (sym (c .before .wrong-check-sizes .ensures) ∙ c .if1 .left)
 
--- src/lib.rt:114:1
 returns-2 : tie.Need-returns-2
-returns-2 c = search needs
+unfolding checkRules
+returns-2 c =
+    let a = c .before .before .before .before .before .before .before .before .args in
+    size-kept (checkSizes (netOf (a .kinds .now) (a .types .now) (a .gates .now) (a .sources .now) (a .drains .now))) (kindRule (a .kinds .now) ∷ wireRule (netOf (a .kinds .now) (a .types .now) (a .gates .now) (a .sources .now) (a .drains .now)) ∷ []) _ (c .before .before .wrong-check-sizes .ensures) _ (c .before .if1 .left) (c .judge-tables .ensures)
 
 pub judge-check-spec : {M : Type 1} → statement M
 judge-check-spec =

@@ -1,42 +1,43 @@
+use mathlib.Core.List.{[], _∷_}
+use Rattle.model.specs.Rules.{kindRule, wireRule, stateRule}
+use Rattle.tables.specs.Lent.{netOf}
+use Rattle.tables.proofs.Judging.{refused-first, accepted-first, rule-broken, rule-kept}
 use native.Mathlib.Omega.{arith}
 use borrow.Author.Needs.{needs}
 use Rattle.tables.proofs.judge_contents.Statement.{statement}
 use Rattle.tables.proofs.judge_contents.Tie as tie
-use Rattle.tables.proofs.judge_contents.Reads as reads
-use Rattle.tables.proofs.judge_contents.Lts as lts
-use Rattle.tables.proofs.judge_tables.Reads as judge-tables-reads
-use Rattle.tables.proofs.places.first_above.Reads as first-above-reads
 
--- src/lib.rt:75:9
 judge-tables-requires : tie.Need-judge-tables-requires
 judge-tables-requires c κs = search needs
 
 enum-told : tie.Need-enum-told
 enum-told c = search needs
 
--- src/lib.rt:77:9
 enum-told-2 : tie.Need-enum-told-2
 enum-told-2 c = search needs
 
--- src/lib.rt:77:9
 returns : tie.Need-returns
-returns c = search needs
+returns c =
+    let a = c .before .before .before .before .before .before .before .before .before .args in
+    refused-first (kindRule (a .kinds .now) ∷ wireRule (netOf (a .kinds .now) (a .types .now) (a .gates .now) (a .sources .now) (a .drains .now)) ∷ []) (stateRule (a .states .now) ∷ []) _ (c .before .before .judge-tables .ensures) _ (c .enum-told2 .given .1)
 
--- src/lib.rt:79:9
 first-above-requires : tie.Need-first-above-requires
 first-above-requires c κs = search needs
 
--- src/lib.rt:81:40
 cast-t12 : tie.Need-cast-t12
 cast-t12 c = search needs
 
--- src/lib.rt:64:1
 returns-2 : tie.Need-returns-2
-returns-2 c = search needs
+returns-2 c =
+    let a = c .before .before .before .before .before .before .before .before .before .before .before .args in
+    accepted-first (kindRule (a .kinds .now) ∷ wireRule (netOf (a .kinds .now) (a .types .now) (a .gates .now) (a .sources .now) (a .drains .now)) ∷ []) (stateRule (a .states .now) ∷ []) _ (c .before .before .before .before .judge-tables .ensures) _ (c .before .before .enum-told .given .1)
+    (rule-broken (stateRule (a .states .now)) _ (c .before .first-above .ensures) (c .if1 .taken))
 
--- src/lib.rt:64:1
 returns-3 : tie.Need-returns-3
-returns-3 c = search needs
+returns-3 c =
+    let a = c .before .before .before .before .before .before .before .before .before .before .before .args in
+    accepted-first (kindRule (a .kinds .now) ∷ wireRule (netOf (a .kinds .now) (a .types .now) (a .gates .now) (a .sources .now) (a .drains .now)) ∷ []) (stateRule (a .states .now) ∷ []) _ (c .before .before .before .before .judge-tables .ensures) _ (c .before .before .enum-told .given .1)
+    (rule-kept (stateRule (a .states .now)) _ (c .before .first-above .ensures) (c .if1 .left))
 
 pub judge-contents-spec : {M : Type 1} → statement M
 judge-contents-spec =

@@ -1,27 +1,32 @@
+use mathlib.Core.Path.{sym, _∙_}
+use mathlib.Core.List.{[], _∷_}
+use Rattle.model.specs.Rules.{kindRule, resetSizes, resetRules}
+use Rattle.tables.proofs.Fitting.{reset-sized}
+use Rattle.tables.proofs.Judging.{size-broken, size-kept}
 use native.Mathlib.Omega.{arith}
 use borrow.Author.Needs.{needs}
 use Rattle.tables.proofs.judge_reset.Statement.{statement}
 use Rattle.tables.proofs.judge_reset.Tie as tie
-use Rattle.tables.proofs.judge_reset.Reads as reads
-use Rattle.tables.proofs.judge_reset.Lts as lts
-use Rattle.tables.proofs.judge_kinds.Reads as judge-kinds-reads
-use Rattle.tables.proofs.sizes.wrong_reset_sizes.Reads as wrong-reset-sizes-reads
 
--- src/lib.rt:133:8
 wrong-reset-sizes-requires : tie.Need-wrong-reset-sizes-requires
 wrong-reset-sizes-requires c κs = search needs
 
--- src/lib.rt:134:9
 returns : tie.Need-returns
-returns c = search needs
+unfolding resetRules
+returns c =
+    let a = c .before .before .before .before .args in
+    size-broken (resetSizes (a .kinds .now) (a .states .now)) (kindRule (a .kinds .now) ∷ []) _ (c .before .wrong-reset-sizes .ensures) (c .if1 .taken)
 
--- src/lib.rt:136:5
 judge-kinds-requires : tie.Need-judge-kinds-requires
-judge-kinds-requires c κs = search needs
+judge-kinds-requires c κs =
+    let a = c .before .before .before .before .args in
+    reset-sized (a .kinds .now) (a .states .now) (sym (c .before .wrong-reset-sizes .ensures) ∙ c .if1 .left) .1
 
--- src/lib.rt:130:1
 returns-2 : tie.Need-returns-2
-returns-2 c = search needs
+unfolding resetRules
+returns-2 c =
+    let a = c .before .before .before .before .before .args in
+    size-kept (resetSizes (a .kinds .now) (a .states .now)) (kindRule (a .kinds .now) ∷ []) _ (c .before .before .wrong-reset-sizes .ensures) _ (c .before .if1 .left) (c .judge-kinds .ensures)
 
 pub judge-reset-spec : {M : Type 1} → statement M
 judge-reset-spec =

@@ -1,27 +1,34 @@
+use mathlib.Core.Path.{sym, _∙_}
+use mathlib.Core.List.{[], _∷_}
+use Rattle.model.specs.Rules.{kindRule, wireRule, stateRule, stepSizes, stepRules}
+use Rattle.tables.specs.Lent.{netOf}
+use Rattle.tables.proofs.Fitting.{step-sized}
+use Rattle.tables.proofs.Judging.{size-broken, size-kept}
 use native.Mathlib.Omega.{arith}
 use borrow.Author.Needs.{needs}
 use Rattle.tables.proofs.judge_step.Statement.{statement}
 use Rattle.tables.proofs.judge_step.Tie as tie
-use Rattle.tables.proofs.judge_step.Reads as reads
-use Rattle.tables.proofs.judge_step.Lts as lts
-use Rattle.tables.proofs.judge_contents.Reads as judge-contents-reads
-use Rattle.tables.proofs.sizes.wrong_step_sizes.Reads as wrong-step-sizes-reads
 
--- src/lib.rt:151:8
 wrong-step-sizes-requires : tie.Need-wrong-step-sizes-requires
 wrong-step-sizes-requires c κs = search needs
 
--- src/lib.rt:152:9
 returns : tie.Need-returns
-returns c = search needs
+unfolding stepRules
+returns c =
+    let a = c .before .before .before .before .before .before .before .before .before .args in
+    size-broken (stepSizes (netOf (a .kinds .now) (a .types .now) (a .gates .now) (a .sources .now) (a .drains .now)) (a .states .now) (a .work .now)) (kindRule (a .kinds .now) ∷ wireRule (netOf (a .kinds .now) (a .types .now) (a .gates .now) (a .sources .now) (a .drains .now)) ∷ stateRule (a .states .now) ∷ []) _ (c .before .wrong-step-sizes .ensures) (c .if1 .taken)
 
--- src/lib.rt:154:5
 judge-contents-requires : tie.Need-judge-contents-requires
-judge-contents-requires c κs = search needs
+judge-contents-requires c κs =
+    let a = c .before .before .before .before .before .before .before .before .before .args in
+    let f = step-sized (netOf (a .kinds .now) (a .types .now) (a .gates .now) (a .sources .now) (a .drains .now)) (a .states .now) (a .work .now) (sym (c .before .wrong-step-sizes .ensures) ∙ c .if1 .left) in
+    (f .0, f .1)
 
--- src/lib.rt:140:1
 returns-2 : tie.Need-returns-2
-returns-2 c = search needs
+unfolding stepRules
+returns-2 c =
+    let a = c .before .before .before .before .before .before .before .before .before .before .args in
+    size-kept (stepSizes (netOf (a .kinds .now) (a .types .now) (a .gates .now) (a .sources .now) (a .drains .now)) (a .states .now) (a .work .now)) (kindRule (a .kinds .now) ∷ wireRule (netOf (a .kinds .now) (a .types .now) (a .gates .now) (a .sources .now) (a .drains .now)) ∷ stateRule (a .states .now) ∷ []) _ (c .before .before .wrong-step-sizes .ensures) _ (c .before .if1 .left) (c .judge-contents .ensures)
 
 pub judge-step-spec : {M : Type 1} → statement M
 judge-step-spec =

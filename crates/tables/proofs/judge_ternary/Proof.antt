@@ -1,27 +1,34 @@
+use mathlib.Core.Path.{sym, _∙_}
+use Rattle.model.specs.Rules.{runSizes, runRules, ternaryRules}
+use Rattle.tables.specs.Lent.{netOf, changesOf}
+use Rattle.tables.proofs.Fitting.{step-sized, run-sized}
+use Rattle.tables.proofs.Judging.{size-broken, size-kept}
 use native.Mathlib.Omega.{arith}
 use borrow.Author.Needs.{needs}
 use Rattle.tables.proofs.judge_ternary.Statement.{statement}
 use Rattle.tables.proofs.judge_ternary.Tie as tie
-use Rattle.tables.proofs.judge_ternary.Reads as reads
-use Rattle.tables.proofs.judge_ternary.Lts as lts
-use Rattle.tables.proofs.judge_run.Reads as judge-run-reads
-use Rattle.tables.proofs.sizes.wrong_run_sizes.Reads as wrong-run-sizes-reads
 
--- src/lib.rt:195:8
 wrong-run-sizes-requires : tie.Need-wrong-run-sizes-requires
 wrong-run-sizes-requires c κs = search needs
 
--- src/lib.rt:196:9
 returns : tie.Need-returns
-returns c = search needs
+unfolding ternaryRules
+returns c =
+    let a = c .before .before .before .before .before .before .before .before .before .before .before .args in
+    size-broken (runSizes (netOf (a .kinds .now) (a .types .now) (a .gates .now) (a .sources .now) (a .drains .now)) (a .states .now) (changesOf (a .named .now) (a .values .now)) (a .work .now)) (runRules (netOf (a .kinds .now) (a .types .now) (a .gates .now) (a .sources .now) (a .drains .now)) (a .states .now) (changesOf (a .named .now) (a .values .now))) _ (c .before .wrong-run-sizes .ensures) (c .if1 .taken)
 
--- src/lib.rt:198:5
 judge-run-requires : tie.Need-judge-run-requires
-judge-run-requires c κs = search needs
+judge-run-requires c κs =
+    let a = c .before .before .before .before .before .before .before .before .before .before .before .args in
+    let f = run-sized (netOf (a .kinds .now) (a .types .now) (a .gates .now) (a .sources .now) (a .drains .now)) (a .states .now) (changesOf (a .named .now) (a .values .now)) (a .work .now) (sym (c .before .wrong-run-sizes .ensures) ∙ c .if1 .left) in
+    let g = step-sized (netOf (a .kinds .now) (a .types .now) (a .gates .now) (a .sources .now) (a .drains .now)) (a .states .now) (a .work .now) (f .0) in
+    (g .0, g .1, f .1)
 
--- src/lib.rt:182:1
 returns-2 : tie.Need-returns-2
-returns-2 c = search needs
+unfolding ternaryRules
+returns-2 c =
+    let a = c .before .before .before .before .before .before .before .before .before .before .before .before .args in
+    size-kept (runSizes (netOf (a .kinds .now) (a .types .now) (a .gates .now) (a .sources .now) (a .drains .now)) (a .states .now) (changesOf (a .named .now) (a .values .now)) (a .work .now)) (runRules (netOf (a .kinds .now) (a .types .now) (a .gates .now) (a .sources .now) (a .drains .now)) (a .states .now) (changesOf (a .named .now) (a .values .now))) _ (c .before .before .wrong-run-sizes .ensures) _ (c .before .if1 .left) (c .judge-run .ensures)
 
 pub judge-ternary-spec : {M : Type 1} → statement M
 judge-ternary-spec =

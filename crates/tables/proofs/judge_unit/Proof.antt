@@ -1,31 +1,41 @@
+use mathlib.Core.Path.{sym, _∙_}
+use mathlib.Core.List.{_∷_}
+use Rattle.model.specs.Rules.{limitRule, runSizes, runRules, unitRules}
+use Rattle.tables.specs.Lent.{netOf, changesOf}
+use Rattle.tables.proofs.Fitting.{step-sized, run-sized}
+use Rattle.tables.proofs.Judging.{size-broken, size-kept, limit-broken, limit-kept}
 use native.Mathlib.Omega.{arith}
 use borrow.Author.Needs.{needs}
 use Rattle.tables.proofs.judge_unit.Statement.{statement}
 use Rattle.tables.proofs.judge_unit.Tie as tie
-use Rattle.tables.proofs.judge_unit.Reads as reads
-use Rattle.tables.proofs.judge_unit.Lts as lts
-use Rattle.tables.proofs.judge_run.Reads as judge-run-reads
-use Rattle.tables.proofs.sizes.wrong_run_sizes.Reads as wrong-run-sizes-reads
 
--- src/lib.rt:172:8
 wrong-run-sizes-requires : tie.Need-wrong-run-sizes-requires
 wrong-run-sizes-requires c κs = search needs
 
--- src/lib.rt:173:9
 returns : tie.Need-returns
-returns c = search needs
+unfolding unitRules
+returns c =
+    let a = c .before .before .before .before .before .before .before .before .before .before .before .args in
+    size-broken (runSizes (netOf (a .kinds .now) (a .types .now) (a .gates .now) (a .sources .now) (a .drains .now)) (a .states .now) (changesOf (a .named .now) (a .values .now)) (a .work .now)) (limitRule (a .limit) ∷ runRules (netOf (a .kinds .now) (a .types .now) (a .gates .now) (a .sources .now) (a .drains .now)) (a .states .now) (changesOf (a .named .now) (a .values .now))) _ (c .before .wrong-run-sizes .ensures) (c .if1 .taken)
 
--- src/lib.rt:176:9
 returns-2 : tie.Need-returns-2
-returns-2 c = search needs
+unfolding unitRules
+returns-2 c =
+    let a = c .before .before .before .before .before .before .before .before .before .before .before .before .args in
+    size-kept (runSizes (netOf (a .kinds .now) (a .types .now) (a .gates .now) (a .sources .now) (a .drains .now)) (a .states .now) (changesOf (a .named .now) (a .values .now)) (a .work .now)) (limitRule (a .limit) ∷ runRules (netOf (a .kinds .now) (a .types .now) (a .gates .now) (a .sources .now) (a .drains .now)) (a .states .now) (changesOf (a .named .now) (a .values .now))) _ (c .before .before .wrong-run-sizes .ensures) _ (c .before .if1 .left) (limit-broken (a .limit) (runRules (netOf (a .kinds .now) (a .types .now) (a .gates .now) (a .sources .now) (a .drains .now)) (a .states .now) (changesOf (a .named .now) (a .values .now))) (c .if2 .taken))
 
--- src/lib.rt:178:5
 judge-run-requires : tie.Need-judge-run-requires
-judge-run-requires c κs = search needs
+judge-run-requires c κs =
+    let a = c .before .before .before .before .before .before .before .before .before .before .before .before .args in
+    let f = run-sized (netOf (a .kinds .now) (a .types .now) (a .gates .now) (a .sources .now) (a .drains .now)) (a .states .now) (changesOf (a .named .now) (a .values .now)) (a .work .now) (sym (c .before .before .wrong-run-sizes .ensures) ∙ c .before .if1 .left) in
+    let g = step-sized (netOf (a .kinds .now) (a .types .now) (a .gates .now) (a .sources .now) (a .drains .now)) (a .states .now) (a .work .now) (f .0) in
+    (g .0, g .1, f .1)
 
--- src/lib.rt:158:1
 returns-3 : tie.Need-returns-3
-returns-3 c = search needs
+unfolding unitRules
+returns-3 c =
+    let a = c .before .before .before .before .before .before .before .before .before .before .before .before .before .args in
+    size-kept (runSizes (netOf (a .kinds .now) (a .types .now) (a .gates .now) (a .sources .now) (a .drains .now)) (a .states .now) (changesOf (a .named .now) (a .values .now)) (a .work .now)) (limitRule (a .limit) ∷ runRules (netOf (a .kinds .now) (a .types .now) (a .gates .now) (a .sources .now) (a .drains .now)) (a .states .now) (changesOf (a .named .now) (a .values .now))) _ (c .before .before .before .wrong-run-sizes .ensures) _ (c .before .before .if1 .left) (limit-kept (a .limit) (runRules (netOf (a .kinds .now) (a .types .now) (a .gates .now) (a .sources .now) (a .drains .now)) (a .states .now) (changesOf (a .named .now) (a .values .now))) (c .before .if2 .left) _ (c .judge-run .ensures))
 
 pub judge-unit-spec : {M : Type 1} → statement M
 judge-unit-spec =

@@ -1,27 +1,28 @@
+use Rattle.model.specs.Rules.{changeSizes, stepSizes, runSizes}
+use Rattle.tables.specs.Lent.{netOf, changesOf}
+use Rattle.tables.proofs.Fitting.{passed-first, failed-first}
 use native.Mathlib.Omega.{arith}
 use borrow.Author.Needs.{needs}
 use Rattle.tables.proofs.sizes.wrong_run_sizes.Statement.{statement}
 use Rattle.tables.proofs.sizes.wrong_run_sizes.Tie as tie
-use Rattle.tables.proofs.sizes.wrong_run_sizes.Reads as reads
-use Rattle.tables.proofs.sizes.wrong_run_sizes.Lts as lts
-use Rattle.tables.proofs.sizes.wrong_change_sizes.Reads as wrong-change-sizes-reads
-use Rattle.tables.proofs.sizes.wrong_step_sizes.Reads as wrong-step-sizes-reads
 
--- src/sizes.rt:115:8
 wrong-step-sizes-requires : tie.Need-wrong-step-sizes-requires
 wrong-step-sizes-requires c κs = search needs
 
--- src/sizes.rt:116:9
 returns : tie.Need-returns
-returns c = search needs
+unfolding runSizes
+returns c =
+    let a = c .before .before .before .before .before .before .before .before .before .before .before .args in
+    passed-first (stepSizes (netOf (a .kinds .now) (a .types .now) (a .gates .now) (a .sources .now) (a .drains .now)) (a .states .now) (a .work .now)) (changeSizes (changesOf (a .named .now) (a .values .now))) _ (c .before .wrong-step-sizes .ensures) (c .if1 .taken)
 
--- src/sizes.rt:118:5
 wrong-change-sizes-requires : tie.Need-wrong-change-sizes-requires
 wrong-change-sizes-requires c κs = search needs
 
--- src/sizes.rt:102:1
 returns-2 : tie.Need-returns-2
-returns-2 c = search needs
+unfolding runSizes
+returns-2 c =
+    let a = c .before .before .before .before .before .before .before .before .before .before .before .before .args in
+    failed-first (stepSizes (netOf (a .kinds .now) (a .types .now) (a .gates .now) (a .sources .now) (a .drains .now)) (a .states .now) (a .work .now)) (changeSizes (changesOf (a .named .now) (a .values .now))) _ (c .before .before .wrong-step-sizes .ensures) _ (c .before .if1 .left) (c .wrong-change-sizes .ensures)
 
 pub wrong-run-sizes-spec : {M : Type 1} → statement M
 wrong-run-sizes-spec =

@@ -1,36 +1,45 @@
+use mathlib.Core.Path.{sym, _∙_}
+use mathlib.Core.Bool.{or-false}
+use mathlib.Core.List.{[], _++_}
+use Rattle.model.specs.Rules.{wireSizes, workSizes, resetSizes, stepSizes}
+use Rattle.tables.specs.Lent.{netOf}
+use Rattle.tables.proofs.Fitting.{passed-first, failed-first, reset-sized, wires-sized}
 use native.Mathlib.Omega.{arith}
 use borrow.Author.Needs.{needs}
 use Rattle.tables.proofs.sizes.wrong_step_sizes.Statement.{statement}
 use Rattle.tables.proofs.sizes.wrong_step_sizes.Tie as tie
-use Rattle.tables.proofs.sizes.wrong_step_sizes.Reads as reads
-use Rattle.tables.proofs.sizes.wrong_step_sizes.Lts as lts
-use Rattle.tables.proofs.sizes.cells_for.Reads as cells-for-reads
-use Rattle.tables.proofs.sizes.wrong_reset_sizes.Reads as wrong-reset-sizes-reads
-use Rattle.tables.proofs.sizes.wrong_wire_sizes.Reads as wrong-wire-sizes-reads
 
--- src/sizes.rt:93:8
 wrong-reset-sizes-requires : tie.Need-wrong-reset-sizes-requires
 wrong-reset-sizes-requires c κs = search needs
 
--- src/sizes.rt:94:9
 returns : tie.Need-returns
-returns c = search needs
+unfolding stepSizes resetSizes
+returns c =
+    let a = c .before .before .before .before .before .before .before .before .before .args in
+    passed-first (resetSizes (a .kinds .now) (a .states .now)) (wireSizes (netOf (a .kinds .now) (a .types .now) (a .gates .now) (a .sources .now) (a .drains .now)) ++ workSizes (netOf (a .kinds .now) (a .types .now) (a .gates .now) (a .sources .now) (a .drains .now)) (a .work .now)) _ (c .before .wrong-reset-sizes .ensures) (c .if1 .taken)
 
--- src/sizes.rt:96:8
 wrong-wire-sizes-requires : tie.Need-wrong-wire-sizes-requires
 wrong-wire-sizes-requires c κs = search needs
 
--- src/sizes.rt:97:9
 returns-2 : tie.Need-returns-2
-returns-2 c = search needs
+unfolding stepSizes resetSizes
+returns-2 c =
+    let a = c .before .before .before .before .before .before .before .before .before .before .before .args in
+    failed-first (resetSizes (a .kinds .now) (a .states .now)) (wireSizes (netOf (a .kinds .now) (a .types .now) (a .gates .now) (a .sources .now) (a .drains .now)) ++ workSizes (netOf (a .kinds .now) (a .types .now) (a .gates .now) (a .sources .now) (a .drains .now)) (a .work .now)) _ (c .before .before .before .wrong-reset-sizes .ensures) _ (c .before .before .if1 .left)
+    (passed-first (wireSizes (netOf (a .kinds .now) (a .types .now) (a .gates .now) (a .sources .now) (a .drains .now))) (workSizes (netOf (a .kinds .now) (a .types .now) (a .gates .now) (a .sources .now) (a .drains .now)) (a .work .now)) _ (c .before .wrong-wire-sizes .ensures) (c .if2 .taken))
 
--- src/sizes.rt:99:18
 cells-for-requires : tie.Need-cells-for-requires
-cells-for-requires c κs = search needs
+cells-for-requires c κs =
+    let a = c .before .before .before .before .before .before .before .before .before .before .before .args in
+    (reset-sized (a .kinds .now) (a .states .now) (sym (c .before .before .before .wrong-reset-sizes .ensures) ∙ c .before .before .if1 .left) .1, wires-sized (netOf [] (a .types .now) (a .gates .now) (a .sources .now) (a .drains .now)) (sym (c .before .wrong-wire-sizes .ensures) ∙ c .if2 .left) .0)
 
--- src/sizes.rt:82:1
 returns-3 : tie.Need-returns-3
-returns-3 c = search needs
+unfolding stepSizes resetSizes
+returns-3 c =
+    let a = c .before .before .before .before .before .before .before .before .before .before .before .before .args in
+    failed-first (resetSizes (a .kinds .now) (a .states .now)) (wireSizes (netOf (a .kinds .now) (a .types .now) (a .gates .now) (a .sources .now) (a .drains .now)) ++ workSizes (netOf (a .kinds .now) (a .types .now) (a .gates .now) (a .sources .now) (a .drains .now)) (a .work .now)) _ (c .before .before .before .before .wrong-reset-sizes .ensures) _ (c .before .before .before .if1 .left)
+    (failed-first (wireSizes (netOf (a .kinds .now) (a .types .now) (a .gates .now) (a .sources .now) (a .drains .now))) (workSizes (netOf (a .kinds .now) (a .types .now) (a .gates .now) (a .sources .now) (a .drains .now)) (a .work .now)) _ (c .before .before .wrong-wire-sizes .ensures) _ (c .before .if2 .left)
+    (rw (c .cells-for .ensures) (sym (or-false _))))
 
 pub wrong-step-sizes-spec : {M : Type 1} → statement M
 wrong-step-sizes-spec =
