@@ -1,0 +1,2 @@
+-- What is proved of the entries: what a verdict gives, and that each contract admits one outcome.
+mod Given

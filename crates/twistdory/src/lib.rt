@@ -1,0 +1,52 @@
+// The simulator's entries. Each checks all that it is lent, answers with one of nine kinds of answer, and says in its contract what it
+// answers and what it leaves in each buffer that it may write, on every input.
+use model::Answer;
+use model::Verdict;
+
+ghost use Prim.Native.Nat.{ℕ};
+ghost use mathlib.Core.Path.{_≡_};
+ghost use lib.ListN.{length};
+ghost use Rattle.model.specs.Places.{tab};
+ghost use Rattle.model.specs.Entries.{checkAnswer, resetOutcome};
+ghost use Rattle.tables.specs.Lent.{netOf};
+
+// Checks a network: its kinds and its transistor tables.
+pub fn check(kinds: &[u8], types: &[u8], gates: &[u16], sources: &[u16], drains: &[u16]) -> Answer
+    ensures { λ r. ⌜ r ≡ checkAnswer (netOf (now (kinds .entry)) (now (types .entry)) (now (gates .entry)) (now (sources .entry)) (now (drains .entry))) ⌝ }
+{
+    match tables::judge_check(kinds, types, gates, sources, drains) {
+        Verdict::Refused(a) => a,
+        Verdict::Accepted => Answer::Done {
+            first: 0,
+            second: 0,
+        },
+    }
+}
+
+// Every state becomes X.
+fn fill_x(states: &mut [u8])
+    ensures { λ _. ⌜ now (states .exit) ≡ tab (length (now (states .entry))) (λ v. 2) ⌝ }
+{
+    let mut v = 0;
+    while v < states.len() {
+        states[v] = 2;
+        v += 1;
+    }
+}
+
+// Resets the states of a network: every state becomes X, whatever it was.
+pub fn reset(kinds: &[u8], states: &mut [u8]) -> Answer
+    ensures answers { λ r. ⌜ r ≡ resetOutcome (now (kinds .entry)) (now (states .entry)) .answer ⌝ }
+    ensures leaves { λ r. ⌜ now (states .exit) ≡ resetOutcome (now (kinds .entry)) (now (states .entry)) .states ⌝ }
+{
+    match tables::judge_reset(kinds, states) {
+        Verdict::Refused(a) => a,
+        Verdict::Accepted => {
+            fill_x(states);
+            Answer::Done {
+                first: 0,
+                second: 0,
+            }
+        }
+    }
+}
