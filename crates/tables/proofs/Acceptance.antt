@@ -2,16 +2,15 @@
 use Prim.Native.Nat.{ℕ, _≤_, _<_}
 use native.Mathlib.Omega.{arith}
 use mathlib.Core.Path.{_≡_, _∙_, sym, subst}
-use mathlib.Core.Bool.{Bool, true, false, not, true≢false}
+use mathlib.Core.Bool.{false, true≢false}
 use mathlib.Core.List.{List}
-use lib.ListN.{length}
-use lib.Dec.{eqb, ltb}
 use borrow.Author.Tests.{ltb-false, ltb-true, eq-eqb, not-false}
+use lib.Dec.{eqb}
 use Rattle.model.specs.Bounds.{highestState, highestLimit, highestKind, highestType}
-use Rattle.model.specs.Places.{any, some, at}
-use Rattle.model.specs.Net.{Net, nodes, transistors, isInput}
+use Rattle.model.specs.Places.{any, at}
+use Rattle.model.specs.Net.{Net, nodes, isInput}
 use Rattle.model.specs.Run.{Changes}
-use Rattle.model.specs.Rules.{Rule, judge, sizeRule, kindRule, wireRule, stateRule, changeRule, wireTests, changeTests, stepSizes, stepRules, runRules, unitRules, ternaryRules, runSizes}
+use Rattle.model.specs.Rules.{Rule, judge, kindRule, wireRule, stateRule, changeRule, wireTests, changeTests, stepSizes, stepRules, runRules, unitRules, ternaryRules, runSizes}
 use Rattle.model.specs.Demands.{Clean, Judged}
 use Rattle.model.specs.declared.Verdict.{Verdict}
 use Rattle.model.specs.declared.Verdict.the-variants.{Accepted}

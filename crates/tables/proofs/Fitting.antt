@@ -1,15 +1,15 @@
 -- What the tests of SIZE say: from tests that all fail, the bounds and the equal lengths. Assumes nothing.
 use Prim.Native.Nat.{ℕ, _≤_}
 use mathlib.Core.Path.{_≡_, refl, ap, _∙_, sym}
-use mathlib.Core.Bool.{Bool, true, false, _||_, true≢false}
+use mathlib.Core.Bool.{Bool, true, false, not, _||_, true≢false}
 use mathlib.Core.List.{List, [], _∷_, _++_}
-use lib.ListN.{length}
-use lib.Dec.{eqb}
 use borrow.Author.Tests.{ltb-false, eqb-true, not-false}
+use lib.ListN.{length, getD}
+use lib.Dec.{eqb}
+use Rattle.model.specs.Bounds.{mostNodes, mostTransistors, mostChanges}
 use Rattle.model.specs.Places.{any}
 use Rattle.model.specs.Net.{Net, nodes, transistors}
 use Rattle.model.specs.Run.{Changes}
-use Rattle.model.specs.Bounds.{mostNodes, mostTransistors, mostChanges}
 use Rattle.model.specs.Rules.{nodeSizes, stateSizes, wireSizes, workSizes, changeSizes, cells, checkSizes, resetSizes, stepSizes, runSizes}
 use Rattle.model.proofs.Judged.{any-none}
 use Rattle.tables.specs.Lent.{Level, Sized, SizedChanges}
@@ -34,7 +34,7 @@ any-apart (true ∷ bs) cs e = absurd (true≢false e)
 any-apart (false ∷ bs) cs e = any-apart bs cs e
 
 -- an equal length
-level-at : (a b : ℕ) (bs : List Bool) (i : ℕ) → any bs ≡ false → lib.ListN.getD bs i false ≡ mathlib.Core.Bool.not (eqb a b) → a ≡ b
+level-at : (a b : ℕ) (bs : List Bool) (i : ℕ) → any bs ≡ false → getD bs i false ≡ not (eqb a b) → a ≡ b
 level-at a b bs i e h = eqb-true a b (not-false (eqb a b) (sym h ∙ any-none bs e i))
 
 pub nodes-sized : (kinds : List ℕ) → any (nodeSizes kinds) ≡ false → (1 ≤ length kinds) × (length kinds ≤ mostNodes)
@@ -44,13 +44,14 @@ pub states-sized : (kinds s : List ℕ) → any (stateSizes kinds s) ≡ false �
 states-sized kinds s e = level-at (length s) (length kinds) (stateSizes kinds s) 0 e refl
 
 pub wires-sized : (net : Net) → any (wireSizes net) ≡ false → (transistors net ≤ mostTransistors) × Level net
-wires-sized net e =
-    (ltb-false mostTransistors (transistors net) (any-none (wireSizes net) e 0),
-    record {
-      gates-level = level-at (length (net .gates)) (transistors net) (wireSizes net) 1 e refl;
-      sources-level = level-at (length (net .sources)) (transistors net) (wireSizes net) 2 e refl;
-      drains-level = level-at (length (net .drains)) (transistors net) (wireSizes net) 3 e refl;
-    })
+wires-sized net e = (
+  ltb-false mostTransistors (transistors net) (any-none (wireSizes net) e 0),
+  record {
+    gates-level = level-at (length (net .gates)) (transistors net) (wireSizes net) 1 e refl;
+    sources-level = level-at (length (net .sources)) (transistors net) (wireSizes net) 2 e refl;
+    drains-level = level-at (length (net .drains)) (transistors net) (wireSizes net) 3 e refl;
+  },
+)
 
 sized : (net : Net) → any (nodeSizes (net .kinds)) ≡ false → any (wireSizes net) ≡ false → Sized net
 sized net d e =
@@ -83,9 +84,10 @@ step-sized net s w e =
 pub run-sized : (net : Net) (s : List ℕ) (ch : Changes) (w : List ℕ) → any (runSizes net s ch w) ≡ false → (any (stepSizes net s w) ≡ false) × SizedChanges ch
 unfolding runSizes
 run-sized net s ch w e =
-    let f = any-apart (stepSizes net s w) (changeSizes ch) e in
-    (f .0,
-    record {
-      values-level = level-at (length (ch .values)) (length (ch .places)) (changeSizes ch) 0 (f .1) refl;
-      few-changes = ltb-false mostChanges (length (ch .places)) (any-none (changeSizes ch) (f .1) 1);
-    })
+    let f = any-apart (stepSizes net s w) (changeSizes ch) e in (
+      f .0,
+      record {
+        values-level = level-at (length (ch .values)) (length (ch .places)) (changeSizes ch) 0 (f .1) refl;
+        few-changes = ltb-false mostChanges (length (ch .places)) (any-none (changeSizes ch) (f .1) 1);
+      },
+    )

@@ -1,14 +1,13 @@
 -- How the judges go through the rules: past those that are not broken, to the first that is. Assumes nothing.
 use Prim.Native.Nat.{ℕ, _≤_, _<_}
-use native.Mathlib.Omega.{arith}
 use mathlib.Core.Path.{_≡_, refl, ap, _∙_, sym}
 use mathlib.Core.Bool.{Bool, true, false}
 use mathlib.Core.List.{List, [], _∷_, _++_}
-use lib.Dec.{ltb}
 use borrow.Author.Tests.{lt-ltb, le-ltb}
+use lib.Dec.{ltb}
+use Rattle.model.specs.Bounds.{highestLimit}
 use Rattle.model.specs.Places.{any, first}
 use Rattle.model.specs.Rules.{Rule, judge, given, sizeRule, limitRule}
-use Rattle.model.specs.Bounds.{highestLimit}
 use Rattle.model.specs.declared.Answer.{Answer}
 use Rattle.model.specs.declared.Answer.the-variants.{Size, Limit}
 use Rattle.model.specs.declared.Verdict.{Verdict}

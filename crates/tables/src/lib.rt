@@ -12,7 +12,6 @@ use sizes::wrong_check_sizes;
 use sizes::wrong_reset_sizes;
 use sizes::wrong_run_sizes;
 use sizes::wrong_step_sizes;
-
 ghost use Prim.Native.Nat.{_≤_};
 ghost use mathlib.Core.Path.{_≡_};
 ghost use mathlib.Core.List.{[], _∷_};
@@ -169,7 +168,17 @@ pub fn judge_unit(
 ) -> Verdict
     ensures { λ r. ⌜ r ≡ judge (unitRules (netOf (now (kinds .entry)) (now (types .entry)) (now (gates .entry)) (now (sources .entry)) (now (drains .entry))) (now (states .entry)) (changesOf (now (named .entry)) (now (values .entry))) limit (now (work .entry))) ⌝ }
 {
-    if wrong_run_sizes(kinds, states, types, gates, sources, drains, named, values, work) {
+    if wrong_run_sizes(
+        kinds,
+        states,
+        types,
+        gates,
+        sources,
+        drains,
+        named,
+        values,
+        work,
+    ) {
         return Verdict::Refused(Answer::Size);
     }
     if limit > HIGHEST_LIMIT {
@@ -192,7 +201,17 @@ pub fn judge_ternary(
 ) -> Verdict
     ensures { λ r. ⌜ r ≡ judge (ternaryRules (netOf (now (kinds .entry)) (now (types .entry)) (now (gates .entry)) (now (sources .entry)) (now (drains .entry))) (now (states .entry)) (changesOf (now (named .entry)) (now (values .entry))) (now (work .entry))) ⌝ }
 {
-    if wrong_run_sizes(kinds, states, types, gates, sources, drains, named, values, work) {
+    if wrong_run_sizes(
+        kinds,
+        states,
+        types,
+        gates,
+        sources,
+        drains,
+        named,
+        values,
+        work,
+    ) {
         return Verdict::Refused(Answer::Size);
     }
     judge_run(kinds, states, types, gates, sources, drains, named, values)

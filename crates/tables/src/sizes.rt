@@ -8,7 +8,9 @@ ghost use Rattle.model.specs.Rules.{nodeSizes, wireSizes, changeSizes, checkSiz
 ghost use Rattle.tables.specs.Lent.{netOf, changesOf};
 
 const MOST_NODES: usize = 4096;
+
 const MOST_TRANSISTORS: usize = 8192;
+
 const MOST_CHANGES: usize = 4096;
 
 // The work cells that a network of so many nodes and transistors needs.

@@ -1,11 +1,11 @@
+-- `judge_check` meets its contract: SIZE where a size is wrong; else what the tables hold decides. Assumes nothing.
 use mathlib.Core.Path.{sym, _∙_}
 use mathlib.Core.List.{[], _∷_}
+use borrow.Author.Needs.{needs}
 use Rattle.model.specs.Rules.{kindRule, wireRule, checkSizes, checkRules}
 use Rattle.tables.specs.Lent.{netOf}
 use Rattle.tables.proofs.Fitting.{check-sized}
 use Rattle.tables.proofs.Judging.{size-broken, size-kept}
-use native.Mathlib.Omega.{arith}
-use borrow.Author.Needs.{needs}
 use Rattle.tables.proofs.judge_check.Statement.{statement}
 use Rattle.tables.proofs.judge_check.Tie as tie
 

@@ -1,7 +1,7 @@
+-- `judge_kinds` meets its contract: the search for a kind above 2 ends at the rule's first place or past its last. Assumes nothing.
+use borrow.Author.Needs.{needs}
 use Rattle.model.specs.Rules.{kindRule}
 use Rattle.tables.proofs.Judging.{rule-broken, rule-kept}
-use native.Mathlib.Omega.{arith}
-use borrow.Author.Needs.{needs}
 use Rattle.tables.proofs.judge_kinds.Statement.{statement}
 use Rattle.tables.proofs.judge_kinds.Tie as tie
 

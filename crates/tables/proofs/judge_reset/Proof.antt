@@ -1,10 +1,10 @@
+-- `judge_reset` meets its contract: SIZE where a size is wrong; else the kinds decide. Assumes nothing.
 use mathlib.Core.Path.{sym, _∙_}
 use mathlib.Core.List.{[], _∷_}
+use borrow.Author.Needs.{needs}
 use Rattle.model.specs.Rules.{kindRule, resetSizes, resetRules}
 use Rattle.tables.proofs.Fitting.{reset-sized}
 use Rattle.tables.proofs.Judging.{size-broken, size-kept}
-use native.Mathlib.Omega.{arith}
-use borrow.Author.Needs.{needs}
 use Rattle.tables.proofs.judge_reset.Statement.{statement}
 use Rattle.tables.proofs.judge_reset.Tie as tie
 

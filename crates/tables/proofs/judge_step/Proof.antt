@@ -1,11 +1,11 @@
+-- `judge_step` meets its contract: SIZE where a size is wrong; else what tables and states hold decides. Assumes nothing.
 use mathlib.Core.Path.{sym, _∙_}
 use mathlib.Core.List.{[], _∷_}
+use borrow.Author.Needs.{needs}
 use Rattle.model.specs.Rules.{kindRule, wireRule, stateRule, stepSizes, stepRules}
 use Rattle.tables.specs.Lent.{netOf}
 use Rattle.tables.proofs.Fitting.{step-sized}
 use Rattle.tables.proofs.Judging.{size-broken, size-kept}
-use native.Mathlib.Omega.{arith}
-use borrow.Author.Needs.{needs}
 use Rattle.tables.proofs.judge_step.Statement.{statement}
 use Rattle.tables.proofs.judge_step.Tie as tie
 

@@ -1,10 +1,10 @@
+-- `judge_ternary` meets its contract: SIZE, then what tables, states and changes hold. Assumes nothing.
 use mathlib.Core.Path.{sym, _∙_}
+use borrow.Author.Needs.{needs}
 use Rattle.model.specs.Rules.{runSizes, runRules, ternaryRules}
 use Rattle.tables.specs.Lent.{netOf, changesOf}
 use Rattle.tables.proofs.Fitting.{step-sized, run-sized}
 use Rattle.tables.proofs.Judging.{size-broken, size-kept}
-use native.Mathlib.Omega.{arith}
-use borrow.Author.Needs.{needs}
 use Rattle.tables.proofs.judge_ternary.Statement.{statement}
 use Rattle.tables.proofs.judge_ternary.Tie as tie
 

@@ -1,11 +1,11 @@
+-- `judge_unit` meets its contract: SIZE, then LIMIT, then what tables, states and changes hold. Assumes nothing.
 use mathlib.Core.Path.{sym, _∙_}
 use mathlib.Core.List.{_∷_}
+use borrow.Author.Needs.{needs}
 use Rattle.model.specs.Rules.{limitRule, runSizes, runRules, unitRules}
 use Rattle.tables.specs.Lent.{netOf, changesOf}
 use Rattle.tables.proofs.Fitting.{step-sized, run-sized}
 use Rattle.tables.proofs.Judging.{size-broken, size-kept, limit-broken, limit-kept}
-use native.Mathlib.Omega.{arith}
-use borrow.Author.Needs.{needs}
 use Rattle.tables.proofs.judge_unit.Statement.{statement}
 use Rattle.tables.proofs.judge_unit.Tie as tie
 

@@ -1,15 +1,16 @@
+-- `first_wrong_change` meets its contract: no entry passed is wrong. Assumes nothing.
 use Prim.Native.Nat.{ℕ, _≤_, _-_}
+use native.Mathlib.Omega.{arith}
 use mathlib.Core.Path.{_≡_, sym, _∙_}
 use mathlib.Core.Bool.{Bool, false}
 use mathlib.Core.List.{List, []}
 use borrow.Author.Count.{below-more}
+use borrow.Author.Needs.{needs}
 use lib.ListN.{length}
 use Rattle.model.specs.Places.{any}
 use Rattle.model.specs.Rules.{changeTests}
 use Rattle.tables.specs.Lent.{netOf, changesOf}
 use Rattle.tables.proofs.Finding.{NoneBelow, none-yet, first-at, first-none}
-use borrow.Author.Needs.{needs}
-use native.Mathlib.Omega.{arith}
 use Rattle.tables.proofs.places.first_wrong_change.Statement.{statement}
 use Rattle.tables.proofs.places.first_wrong_change.Tie as tie
 

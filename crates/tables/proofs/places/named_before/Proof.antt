@@ -1,16 +1,16 @@
-use borrow.Author.Tests.{eq-eqb, ne-eqb}
-use Prim.Native.Nat.{ℕ, _≤_, _<_, _-_}
+-- `named_before` meets its contract: no entry passed names the node of the entry e. Assumes nothing.
+use Prim.Native.Nat.{ℕ, _≤_, _-_}
+use native.Mathlib.Omega.{arith}
 use mathlib.Core.Path.{_≡_, sym}
 use mathlib.Core.Bool.{Bool, false}
 use mathlib.Core.List.{List}
 use borrow.Author.Count.{below-more}
-use lib.ListN.{length}
+use borrow.Author.Needs.{needs}
+use borrow.Author.Tests.{eq-eqb, ne-eqb}
 use lib.Dec.{eqb}
 use Rattle.model.specs.Places.{at}
 use Rattle.model.proofs.Places.{some-of}
 use Rattle.tables.proofs.Finding.{NoneBelow, none-yet, some-none}
-use borrow.Author.Needs.{needs}
-use native.Mathlib.Omega.{arith}
 use Rattle.tables.proofs.places.named_before.Statement.{statement}
 use Rattle.tables.proofs.places.named_before.Tie as tie
 

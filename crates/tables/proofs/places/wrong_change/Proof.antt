@@ -1,9 +1,9 @@
+-- `wrong_change` meets its contract: each way out is the first of its tests that passes, and the last test decides. Assumes nothing.
 use mathlib.Core.Path.{sym}
-use borrow.Author.Tests.{lt-ltb, le-ltb, eq-eqb, ne-eqb}
 use mathlib.Core.Bool.{or-false}
-use Rattle.model.specs.Rules.{changeTests}
-use native.Mathlib.Omega.{arith}
 use borrow.Author.Needs.{needs}
+use borrow.Author.Tests.{lt-ltb, le-ltb, eq-eqb, ne-eqb}
+use Rattle.model.specs.Rules.{changeTests}
 use Rattle.tables.proofs.places.wrong_change.Statement.{statement}
 use Rattle.tables.proofs.places.wrong_change.Tie as tie
 

@@ -1,11 +1,12 @@
+-- `wrong_wire` meets its contract: each way out is the first of its tests that passes, and the last test decides. Assumes nothing.
+use native.Mathlib.Omega.{arith}
+use mathlib.Core.Bool.{or-false}
+use borrow.Author.Needs.{needs}
+use borrow.Author.Tests.{lt-ltb, le-ltb}
 use lib.ListN.{length}
 use Rattle.model.specs.Places.{at}
-use Rattle.tables.proofs.Finding.{leb-not}
-use borrow.Author.Tests.{lt-ltb, le-ltb}
-use mathlib.Core.Bool.{or-false}
 use Rattle.model.specs.Rules.{wireTests}
-use native.Mathlib.Omega.{arith}
-use borrow.Author.Needs.{needs}
+use Rattle.tables.proofs.Finding.{leb-not}
 use Rattle.tables.proofs.places.wrong_wire.Statement.{statement}
 use Rattle.tables.proofs.places.wrong_wire.Tie as tie
 

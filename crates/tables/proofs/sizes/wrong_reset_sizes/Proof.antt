@@ -1,9 +1,9 @@
+-- `wrong_reset_sizes` meets its contract: the nodes' sizes, then the states'. Assumes nothing.
 use mathlib.Core.Path.{sym}
 use mathlib.Core.Bool.{or-false}
+use borrow.Author.Needs.{needs}
 use Rattle.model.specs.Rules.{nodeSizes, stateSizes, resetSizes}
 use Rattle.tables.proofs.Fitting.{passed-first, failed-first}
-use native.Mathlib.Omega.{arith}
-use borrow.Author.Needs.{needs}
 use Rattle.tables.proofs.sizes.wrong_reset_sizes.Statement.{statement}
 use Rattle.tables.proofs.sizes.wrong_reset_sizes.Tie as tie
 

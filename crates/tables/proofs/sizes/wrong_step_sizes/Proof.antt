@@ -1,11 +1,11 @@
+-- `wrong_step_sizes` meets its contract: the sizes of nodes and states, of transistors, then of the work area: by then its cells are few enough to count. Assumes nothing.
 use mathlib.Core.Path.{sym, _∙_}
 use mathlib.Core.Bool.{or-false}
 use mathlib.Core.List.{[], _++_}
+use borrow.Author.Needs.{needs}
 use Rattle.model.specs.Rules.{wireSizes, workSizes, resetSizes, stepSizes}
 use Rattle.tables.specs.Lent.{netOf}
 use Rattle.tables.proofs.Fitting.{passed-first, failed-first, reset-sized, wires-sized}
-use native.Mathlib.Omega.{arith}
-use borrow.Author.Needs.{needs}
 use Rattle.tables.proofs.sizes.wrong_step_sizes.Statement.{statement}
 use Rattle.tables.proofs.sizes.wrong_step_sizes.Tie as tie
 

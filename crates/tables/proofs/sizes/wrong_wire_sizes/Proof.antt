@@ -1,7 +1,6 @@
-use borrow.Author.Tests.{lt-ltb, le-ltb, eq-eqb, ne-eqb}
+-- `wrong_wire_sizes` meets its contract: each way out is the first test that passes, and the last test decides. Assumes nothing.
 use mathlib.Core.Bool.{or-false}
-use borrow.Author.Needs.{needs}
-use native.Mathlib.Omega.{arith}
+use borrow.Author.Tests.{lt-ltb, le-ltb, eq-eqb, ne-eqb}
 use Rattle.tables.proofs.sizes.wrong_wire_sizes.Statement.{statement}
 use Rattle.tables.proofs.sizes.wrong_wire_sizes.Tie as tie
 
