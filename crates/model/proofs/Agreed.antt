@@ -1,8 +1,8 @@
 -- The state that all agree on. Assumes nothing.
-use Prim.Native.Nat.{ℕ, zero, suc, _<_}
+use Prim.Native.Nat.{ℕ, zero, suc, _≤_, _<_}
 use native.Mathlib.Omega.{arith}
 use mathlib.Core.Path.{_≡_, refl, _∙_, sym}
-use mathlib.Core.Logic.{_⊎_, inl, inr, _↔_}
+use mathlib.Core.Logic.{inl, inr, _↔_}
 use mathlib.Core.Bool.{Bool, true, false, cond, false≢true}
 use Rattle.model.specs.Net.{agreed}
 use Rattle.model.specs.Order.{_⊑_}
@@ -46,3 +46,11 @@ agreed-says q h b l = go b l (q 0) refl (q 1) refl
     go (suc zero) l false x true e = (λ z. e, λ z. refl)
     go (suc zero) l false x false e = (λ z. absurd (omega arith), λ z. absurd (false≢true (sym e ∙ z)))
     go (suc (suc b)) l x d y e = absurd (omega arith)
+
+pub agreed-known : (q : ℕ → Bool) → agreed q ≤ 2
+agreed-known q = go (q 0) (q 1)
+  where
+    go : (a b : Bool) → cond a 0 (cond b 1 2) ≤ 2
+    go true b = omega arith
+    go false true = omega arith
+    go false false = omega arith

@@ -1,7 +1,7 @@
--- A choice, as a relation; the order of how transistors stand. Assumes nothing.
+-- What a test of every choice says of each; how transistors stand where less is known. Assumes nothing.
 use Prim.Native.Nat.{ℕ, zero, suc, _<_}
 use native.Mathlib.Nat.{not-suc-le-zero, le-of-suc-le-suc}
-use mathlib.Core.Path.{_≡_, refl, ap, subst, sym}
+use mathlib.Core.Path.{_≡_, refl, ap}
 use mathlib.Core.Logic.{_⊎_, inl, inr}
 use mathlib.Core.Bool.{Bool, true, false, and-eq-true-iff}
 use mathlib.Core.List.{List, [], _∷_}
@@ -10,21 +10,9 @@ use Rattle.model.specs.Places.{tab}
 use Rattle.model.specs.Net.{Stand, opened, closed, unknown, stand, everyChoice}
 use Rattle.model.specs.Ways.{choose}
 use Rattle.model.specs.Order.{_⊑_}
+use Rattle.model.specs.Demands.{Fits, Choice}
 
-abbrev pub Fits : Stand → Bool → Type 0
-Fits opened true = ⊥
-Fits opened false = Unit {0}
-Fits closed true = Unit {0}
-Fits closed false = ⊥
-Fits unknown b = Unit {0}
-
-abbrev pub Pick : List Stand → List Bool → Type 0
-Pick [] [] = Unit {0}
-Pick [] (b ∷ c) = ⊥
-Pick (x ∷ r) [] = ⊥
-Pick (x ∷ r) (b ∷ c) = Fits x b × Pick r c
-
-pub everyChoice-at : (r : List Stand) (p : List Bool → Bool) → everyChoice r p ≡ true → (c : List Bool) → Pick r c → p c ≡ true
+pub everyChoice-at : (r : List Stand) (p : List Bool → Bool) → everyChoice r p ≡ true → (c : List Bool) → Choice r c → p c ≡ true
 everyChoice-at [] p e [] w = e
 everyChoice-at [] p e (b ∷ c) w = absurd w
 everyChoice-at (x ∷ r) p e [] w = absurd w
@@ -35,7 +23,7 @@ everyChoice-at (closed ∷ r) p e (false ∷ c) w = absurd (w .0)
 everyChoice-at (unknown ∷ r) p e (true ∷ c) w = everyChoice-at r (λ d. p (true ∷ d)) (and-eq-true-iff (everyChoice r (λ d. p (false ∷ d))) _ .0 e .1) c (w .1)
 everyChoice-at (unknown ∷ r) p e (false ∷ c) w = everyChoice-at r (λ d. p (false ∷ d)) (and-eq-true-iff (everyChoice r (λ d. p (false ∷ d))) _ .0 e .0) c (w .1)
 
-pub everyChoice-of : (r : List Stand) (p : List Bool → Bool) → ((c : List Bool) → Pick r c → p c ≡ true) → everyChoice r p ≡ true
+pub everyChoice-of : (r : List Stand) (p : List Bool → Bool) → ((c : List Bool) → Choice r c → p c ≡ true) → everyChoice r p ≡ true
 everyChoice-of [] p f = f [] tt
 everyChoice-of (opened ∷ r) p f = everyChoice-of r (λ d. p (false ∷ d)) (λ c w. f (false ∷ c) (tt, w))
 everyChoice-of (closed ∷ r) p f = everyChoice-of r (λ d. p (true ∷ d)) (λ c w. f (true ∷ c) (tt, w))
@@ -57,12 +45,12 @@ choose-fits opened b = tt
 choose-fits closed b = tt
 choose-fits unknown b = tt
 
-pub way-tab : (n : ℕ) (f : ℕ → Stand) (g : ℕ → Bool) → Pick (tab n f) (tab n (λ t. choose (f t) (g t)))
-way-tab zero f g = tt
-way-tab (suc n) f g = (choose-fits (f zero) (g zero), way-tab n (λ t. f (suc t)) (λ t. g (suc t)))
+pub choice-tab : (n : ℕ) (f : ℕ → Stand) (g : ℕ → Bool) → Choice (tab n f) (tab n (λ t. choose (f t) (g t)))
+choice-tab zero f g = tt
+choice-tab (suc n) f g = (choose-fits (f zero) (g zero), choice-tab n (λ t. f (suc t)) (λ t. g (suc t)))
 
-pub way-at : (n : ℕ) (f : ℕ → Stand) (c : List Bool) → Pick (tab n f) c → (t : ℕ) → t < n → Fits (f t) (getD c t false)
-way-at zero f c w t h = absurd (not-suc-le-zero h)
-way-at (suc n) f [] w t h = absurd w
-way-at (suc n) f (b ∷ c) w zero h = w .0
-way-at (suc n) f (b ∷ c) w (suc t) h = way-at n (λ k. f (suc k)) c (w .1) t (le-of-suc-le-suc h)
+pub choice-at : (n : ℕ) (f : ℕ → Stand) (c : List Bool) → Choice (tab n f) c → (t : ℕ) → t < n → Fits (f t) (getD c t false)
+choice-at zero f c w t h = absurd (not-suc-le-zero h)
+choice-at (suc n) f [] w t h = absurd w
+choice-at (suc n) f (b ∷ c) w zero h = w .0
+choice-at (suc n) f (b ∷ c) w (suc t) h = choice-at n (λ k. f (suc k)) c (w .1) t (le-of-suc-le-suc h)

@@ -4,25 +4,16 @@ use Prim.Native.Nat.{ℕ, zero, suc, _≤_, _<_}
 use native.Mathlib.Omega.{arith}
 use mathlib.Core.Path.{_≡_, refl, ap, _∙_, sym}
 use mathlib.Core.Logic.{_⊎_, inl, inr}
-use mathlib.Core.Bool.{Bool, true, false, not, _&&_, false≢true, true≢false, and-eq-true-iff}
+use mathlib.Core.Bool.{Bool, true, false, not, _&&_, and-eq-true-iff}
 use mathlib.Core.List.{List, [], _∷_}
-use lib.ListN.{length, set, getD, List·getD-eq-default, length-set}
-use lib.Seq.{getD-set-same, getD-set-other}
+use lib.ListN.{length, set, List·getD-eq-default, length-set}
 use lib.Dec.{eqb, ltb}
-use borrow.Author.Tests.{eqb-true, eqb-false, eq-eqb, ne-eqb, ltb-true, ltb-false, not-true, not-false}
+use borrow.Author.Tests.{eqb-true, eqb-false, eq-eqb, ne-eqb, ltb-true, ltb-false, not-true}
 use Rattle.model.specs.Places.{at, iter, count}
 use Rattle.model.specs.Order.{_⊑_, _≼_}
-use Rattle.model.specs.Cover.{Stepper, May, stays, arrives, follows, Reach, start, move}
+use Rattle.model.specs.Cover.{Stepper, May, stays, arrives, follows, Reach, begin, move, OneByOne, start, arrive, follow}
 use Rattle.model.specs.Demands.{freeNodes}
-use Rattle.model.proofs.Descent.{count-le, count-lt, Differ, equal-or-differ, iter-fixed, iter-keeps, Still, descent}
-
-pub ⊑-refl : (a : ℕ) → a ⊑ a
-⊑-refl a = inl refl
-
-pub ⊑-trans : (a b c : ℕ) → a ⊑ b → b ⊑ c → a ⊑ c
-⊑-trans a b c h (inr e) = inr e
-⊑-trans a b c (inl d) (inl e) = inl (d ∙ e)
-⊑-trans a b c (inr d) (inl e) = inr (sym e ∙ d)
+use Rattle.model.proofs.Descent.{count-le, count-lt, Differ, equal-or-differ, iter-fixed, Still, descent}
 
 -- a cell that rises was no X, and is X
 rises : (a b : ℕ) → a ⊑ b → (a ≡ b → ⊥) → (a ≡ 2 → ⊥) × (b ≡ 2)
@@ -155,7 +146,7 @@ module _ (n : ℕ) (input : ℕ → Bool) (f : List ℕ → List ℕ) (st : Step
   module _ (changed : ℕ → Bool) (from to : List ℕ) where
     -- u is settled, covers the start, and has X at each changed input: it covers whatever is reached
     pub reach-below : (u : List ℕ) → f u ≡ u → from ≼ u → ((v : ℕ) → changed v ≡ true → at u v ≡ 2) → (s : List ℕ) → Reach n input changed f to from s → s ≼ u
-    reach-below u e h x s start v = h v
+    reach-below u e h x s begin v = h v
     reach-below u e h x s (move {s = r} p t k may) v = go (λ i. reach-below u e h x r p i) (may v)
       where
         go : r ≼ u → May n input changed f to r v (at t v) → at t v ⊑ at u v
@@ -173,3 +164,13 @@ module _ (n : ℕ) (input : ℕ → Bool) (f : List ℕ → List ℕ) (st : Step
         go : (v : ℕ) → v < n → (b : Bool) → input v ≡ b → at s v ⊑ at t v
         go v l true i = inl (inputs v l i)
         go v l false i = rw (same v l i) (reach-below u e h x s r v)
+
+    -- one by one is a case of any nodes at once
+    pub one-reach : (s : List ℕ) → OneByOne n input changed f to from s → Reach n input changed f to from s
+    one-reach s start = begin
+    one-reach s (arrive {s = r} p v c) =
+        move (one-reach r p) (set r v (at to v)) (length-set r v (at to v))
+        (λ i. elim (set-at r v (at to v) i) [ inl e ↦ stays e | inr q ↦ arrives (ap changed (q .0) ∙ c) (q .1 ∙ ap (at to) (sym (q .0))) ])
+    one-reach s (follow {s = r} p v l h) =
+        move (one-reach r p) (set r v (at (f r) v)) (length-set r v (at (f r) v))
+        (λ i. elim (set-at r v (at (f r) v) i) [ inl e ↦ stays e | inr q ↦ follows (omega (arith, q .0)) (ap input (q .0) ∙ h) (q .1 ∙ ap (at (f r)) (sym (q .0))) ])

@@ -1,11 +1,11 @@
 -- The joined set is what walks of closed transistors reach. Assumes nothing.
-use Prim.Native.Nat.{ℕ, zero, suc, _+_, _-_, _≤_, _<_}
-use native.Mathlib.Nat.{not-suc-le-zero, zero-add, suc-add}
+use Prim.Native.Nat.{ℕ, zero, suc, _+_, _-_, _<_}
+use native.Mathlib.Nat.{zero-add, suc-add}
 use native.Mathlib.Omega.{arith}
 use mathlib.Core.Path.{_≡_, refl, ap, _∙_, sym, subst}
 use mathlib.Core.Logic.{_⊎_, inl, inr}
 use mathlib.Core.Bool.{Bool, true, false, not, _&&_, _||_, true≢false, false≢true, and-eq-true-iff}
-use mathlib.Core.List.{List, [], _∷_}
+use mathlib.Core.List.{List}
 use lib.ListN.{length, getD, List·getD-eq-default}
 use lib.Seq.{ext-getD}
 use lib.Dec.{eqb, ltb}
@@ -110,10 +110,6 @@ module _ (net : Net) where
       here : Walk v v
       more : {w x : ℕ} → Walk v w → x < nodes net → isInput net x ≡ false → Link x w → Walk v x
 
-    pub walk-trans : (u v w : ℕ) → Walk u v → Walk v w → Walk u w
-    walk-trans u v w p here = p
-    walk-trans u v w p (more q l i k) = more (walk-trans u v _ p q) l i k
-
     -- what is in the set was reached by a walk
     Sound : ℕ → List Bool → Type 0
     Sound v m = (w : ℕ) → w ∈ m → Walk v w
@@ -182,9 +178,6 @@ module _ (net : Net) where
     joined-closed : (v : ℕ) → spread net c (joined net c v) ≡ joined net c v
     unfolding joined first-set
     joined-closed v = still-end (spread net c) (nodes net) (first-set v) (joined-still v)
-
-    pub joined-length : (v : ℕ) → length (joined net c v) ≡ nodes net
-    joined-length v = ap length (sym (joined-closed v)) ∙ spread-length (joined net c v)
 
     -- and a walk's end is in the set
     joined-first : (v : ℕ) → v < nodes net → v ∈ joined net c v

@@ -5,7 +5,7 @@ use native.Mathlib.Omega.{arith}
 use mathlib.Core.Path.{_≡_, refl, ap, _∙_, sym}
 use mathlib.Core.Logic.{_⊎_, inl, inr}
 use mathlib.Core.Bool.{Bool, true, false, true≢false}
-use mathlib.Core.List.{List, [], _∷_}
+use mathlib.Core.List.{List, [], _∷_, _++_}
 use lib.ListN.{getD}
 use lib.Dec.{ltb}
 use borrow.Author.Tests.{ltb-true, ltb-false}
@@ -166,3 +166,14 @@ judged-lowest n rs accept h b x = go (judge rs) (judge-says rs)
     go : (v : Verdict) → Judged rs v → Applies rs (given v (λ a. a) accept) × (number (given v (λ a. a) accept) ≤ number b)
     go Accepted j = absurd (clean-applies rs b j x)
     go (Refused a) j = (broken-applies rs a j, lowest n rs a b h j x)
+
+-- rules one after the other
+pub judge-append : (rs qs : List Rule) → judge (rs ++ qs) ≡ given (judge rs) Refused (judge qs)
+judge-append [] qs = refl
+judge-append (r ∷ rs) qs = go (ltb (first (r .places) (r .breaks)) (r .places)) (judge-append rs qs)
+  where
+    go : (b : Bool) → judge (rs ++ qs) ≡ given (judge rs) Refused (judge qs)
+        → elim b as (λ x. Verdict) [ true ↦ Refused (r .refusal (first (r .places) (r .breaks))) | false ↦ judge (rs ++ qs) ]
+        ≡ given (elim b as (λ x. Verdict) [ true ↦ Refused (r .refusal (first (r .places) (r .breaks))) | false ↦ judge rs ]) Refused (judge qs)
+    go true h = refl
+    go false h = h

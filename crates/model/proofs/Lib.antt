@@ -11,3 +11,8 @@ pub mod Ways
 pub mod RuleOne
 pub mod Ternary
 pub mod Judged
+pub mod Changes
+pub mod Outcomes
+pub mod Demands
+pub mod Alike
+pub mod OrderFree

@@ -1,27 +1,28 @@
 -- Rule one's step by all choices is its step by ways, and so the laws of runs apply to it. Assumes nothing.
 use Prim.Native.Nat.{ℕ, zero, suc, min, _≤_, _<_}
-use native.Mathlib.Nat.{not-suc-le-zero, le-of-suc-le-suc}
+use native.Mathlib.Nat.{not-suc-le-zero}
 use native.Mathlib.Omega.{arith}
 use mathlib.Core.Path.{_≡_, refl, ap, _∙_, sym, subst}
 use mathlib.Core.Logic.{_⊎_, inl, inr, _↔_}
 use mathlib.Core.Bool.{Bool, true, false, cond, _&&_, true≢false, false≢true, and-eq-true-iff}
-use mathlib.Core.List.{List, [], _∷_}
+use mathlib.Core.List.{List}
 use lib.ListN.{length, getD}
 use lib.Seq.{ext-getD}
 use lib.Dec.{eqb, leb}
 use borrow.Author.Tests.{eqb-true, eq-eqb, leb-true, le-leb}
 use Rattle.model.specs.Places.{tab, at, every, most, imp}
-use Rattle.model.specs.Net.{Net, nodes, transistors, isInput, isPullup, Stand, opened, closed, unknown, stands, standAt, everyChoice, linked, joined, strength, sourceState, agreed, setState, new, step}
+use Rattle.model.specs.Net.{Net, nodes, transistors, isInput, isPullup, Stand, opened, closed, unknown, stands, standAt, everyChoice, linked, joined, strength, sourceState, setState, new, step}
 use Rattle.model.specs.Order.{_⊑_, _≼_}
 use Rattle.model.specs.Cover.{Stepper}
-use Rattle.model.specs.Ways.{Frame, Lawful, Inside, Joins, Way, source, pass, Definite, Unblocked, From, choose}
+use Rattle.model.specs.Demands.{Fits, Choice}
+use Rattle.model.specs.Ways.{Frame, Lawful, Joins, Way, source, pass, Definite, Unblocked, From, choose}
 use Rattle.model.specs.Tables.{StepTables, byTables, definite, fresh, stepBy}
 use Rattle.model.specs.RuleOne.{ownStrength, frame, quickStep}
 use Rattle.model.proofs.Places.{length-tab, getD-tab, every-at, every-of, most-of, most-at, imp-of, imp-at}
-use Rattle.model.proofs.Choices.{Fits, Pick, everyChoice-at, everyChoice-of, Within, way-tab, way-at, stand-mono}
-use Rattle.model.proofs.Joined.{_∈_, member-below, Ends, Link, linked-at, linked-of, Walk, here, more, joined-walk, walk-joined}
-use Rattle.model.proofs.Agreed.{agreed-cong}
-use Rattle.model.proofs.Ways.{way-map, way-below, way-fine, way-input, way-start, way-top, way-pos, definite-most, definite-way, unblocked-open, none, none-from, from-none, fresh-says, from-down, tables-fresh, stepBy-at, stepBy-length, scheme-stepper}
+use Rattle.model.proofs.Choices.{everyChoice-at, everyChoice-of, Within, choice-tab, choice-at, stand-mono}
+use Rattle.model.proofs.Joined.{_∈_, Ends, Link, linked-at, linked-of, Walk, here, more, joined-walk, walk-joined}
+use Rattle.model.proofs.Agreed.{agreed-cong, agreed-known}
+use Rattle.model.proofs.Ways.{way-map, way-below, way-fine, way-input, way-start, way-top, definite-most, definite-way, none, none-from, from-none, fresh-says, from-down, tables-fresh, stepBy-at, stepBy-length, scheme-stepper}
 
 -- the choice c as how the transistors stand
 abbrev set-by : Bool → Stand
@@ -90,9 +91,9 @@ module _ (net : Net) where
   abbrev pub allAre : List ℕ → List Bool → List Bool → ℕ → Bool
   allAre s c m b = every (nodes net) (λ i. imp (counted c m i) (eqb (sourceState net s i) b))
 
-  -- every way gives v the state b
-  abbrev pub allWays : List ℕ → ℕ → ℕ → Bool
-  allWays s v b = everyChoice (stands net s) (λ c. eqb (setState net s c (joined net c v)) b)
+  -- every choice gives v the state b
+  abbrev pub allChoices : List ℕ → ℕ → ℕ → Bool
+  allChoices s v b = everyChoice (stands net s) (λ c. eqb (setState net s c (joined net c v)) b)
 
   own-inner : (v : ℕ) → Inner net v → F .own v ≡ ownStrength net v
   own-inner v h = ap (λ (i : Bool). cond i 3 (ownStrength net v)) (h .1)
@@ -252,9 +253,9 @@ module _ (net : Net) where
     unfolding pick
     pick-at t l = getD-tab (transistors net) _ false t l
 
-    pub pick-way : Pick (stands net s) pick
+    pub pick-way : Choice (stands net s) pick
     unfolding stands pick
-    pick-way = way-tab (transistors net) how near
+    pick-way = choice-tab (transistors net) how near
 
     near-at : (t x w : ℕ) → Joins F t x w → near t ≡ true → (at D x ≤ K) × (at D w ≤ K)
     unfolding near
@@ -307,18 +308,18 @@ module _ (net : Net) where
 
   -- all choices
   module _ (s : List ℕ) (v : ℕ) (hv : Inner net v) where
-    within-choice : (c : List Bool) → Pick (stands net s) c → (t : ℕ) → t < transistors net → Within (by c t) (standAt net s t)
+    within-choice : (c : List Bool) → Choice (stands net s) c → (t : ℕ) → t < transistors net → Within (by c t) (standAt net s t)
     unfolding stands
-    within-choice c w t l = fits-within (standAt net s t) (getD c t false) (way-at (transistors net) (standAt net s) c w t l)
+    within-choice c w t l = fits-within (standAt net s t) (getD c t false) (choice-at (transistors net) (standAt net s) c w t l)
 
-    all-ways-from : (b : ℕ) → b < 2 → allWays s v b ≡ true → From F (standAt net s) (sourceState net s) b v
-    all-ways-from b l e u k p =
+    choices-from : (b : ℕ) → b < 2 → allChoices s v b ≡ true → From F (standAt net s) (sourceState net s) b v
+    choices-from b l e u k p =
         let c = pick s k in
         let q : setState net s c (joined net c v) ≡ b = eqb-true _ _ (everyChoice-at (stands net s) _ e c (pick-way s k)) in
         fresh-says F (lawful net) (by c) (sourceState net s) v (hv .0) b l .0 (sym (one-choice c v hv s) ∙ q) u k (kept s k p refl .1)
 
-    from-all-ways : (b : ℕ) → b < 2 → From F (standAt net s) (sourceState net s) b v → allWays s v b ≡ true
-    from-all-ways b l f =
+    from-choices : (b : ℕ) → b < 2 → From F (standAt net s) (sourceState net s) b v → allChoices s v b ≡ true
+    from-choices b l f =
         everyChoice-of (stands net s) _
         (λ c w.
         eq-eqb _ _
@@ -326,13 +327,20 @@ module _ (net : Net) where
         ∙ fresh-says F (lawful net) (by c) (sourceState net s) v (hv .0) b l .1
         (from-down F (lawful net) (by c) (standAt net s) (sourceState net s) (sourceState net s) (within-choice c w) (λ i. inl refl) b v l f)))
 
+    -- ways decide choices: every choice gives v the state b exactly where every unblocked way to it starts at b
+    pub ways-decide : (b : ℕ) → b < 2 → ((c : List Bool) → Choice (stands net s) c → setState net s c (joined net c v) ≡ b) ↔ From F (standAt net s) (sourceState net s) b v
+    ways-decide b l = (
+      λ h. choices-from b l (everyChoice-of (stands net s) _ (λ c w. eq-eqb _ _ (h c w))),
+      λ f c w. eqb-true _ _ (everyChoice-at (stands net s) _ (from-choices b l f) c w),
+    )
+
     pub new-by-ways : new net s v ≡ fresh F (standAt net s) (sourceState net s) v
     unfolding new fresh
     new-by-ways =
-        agreed-cong (allWays s v) (none F (lawful net) (standAt net s) (sourceState net s) v)
+        agreed-cong (allChoices s v) (none F (lawful net) (standAt net s) (sourceState net s) v)
         (λ b l. (
-          λ e. from-none F (lawful net) (standAt net s) (sourceState net s) b v (hv .0) (all-ways-from b l e),
-          λ e. from-all-ways b l (none-from F (lawful net) (standAt net s) (sourceState net s) b v (hv .0) e),
+          λ e. from-none F (lawful net) (standAt net s) (sourceState net s) b v (hv .0) (choices-from b l e),
+          λ e. from-choices b l (none-from F (lawful net) (standAt net s) (sourceState net s) b v (hv .0) e),
         ))
 
   pub length-step : (s : List ℕ) → length (step net s) ≡ nodes net
@@ -342,6 +350,20 @@ module _ (net : Net) where
   pub step-at : (s : List ℕ) (v : ℕ) → v < nodes net → at (step net s) v ≡ cond (isInput net v) (at s v) (new net s v)
   unfolding step
   step-at s v h = getD-tab (nodes net) _ 0 v h
+
+  step-inner : (s : List ℕ) (v : ℕ) → Inner net v → at (step net s) v ≡ new net s v
+  step-inner s v h = step-at s v (h .0) ∙ ap (λ (c : Bool). cond c (at s v) (new net s v)) (h .1)
+
+  -- after a step a node that is no input is 0 or 1 exactly where every choice gives it that state; else it is X
+  pub step-exactly : (s : List ℕ) (v : ℕ) → Inner net v → (b : ℕ) → b < 2 → (at (step net s) v ≡ b) ↔ ((c : List Bool) → Choice (stands net s) c → setState net s c (joined net c v) ≡ b)
+  step-exactly s v h b l =
+      let r = fresh-says F (lawful net) (standAt net s) (sourceState net s) v (h .0) b l in
+      let q : at (step net s) v ≡ fresh F (standAt net s) (sourceState net s) v = step-inner s v h ∙ new-by-ways s v h in
+      (λ e. ways-decide s v h b l .1 (r .0 (sym q ∙ e)), λ f. q ∙ r .1 (ways-decide s v h b l .0 f))
+
+  pub step-known : (s : List ℕ) (v : ℕ) → Inner net v → at (step net s) v ≤ 2
+  unfolding new
+  step-known s v h = omega (arith, step-inner s v h, agreed-known (allChoices s v))
 
   -- the step by any three tables of it
   pub tables-step : (s : List ℕ) (d p₀ p₁ : ℕ → ℕ) → StepTables F (standAt net s) (sourceState net s) d p₀ p₁

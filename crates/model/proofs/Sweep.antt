@@ -5,16 +5,16 @@ use native.Mathlib.Nat.{le-of-suc-le-suc, not-suc-le-zero, mul-suc}
 use native.Mathlib.Omega.{arith}
 use mathlib.Core.Path.{_≡_, refl, ap, _∙_, sym, subst}
 use mathlib.Core.Logic.{_⊎_, inl, inr}
-use mathlib.Core.Bool.{Bool, true, false, not, cond, _&&_, _||_, true≢false, false≢true, and-eq-true-iff}
-use mathlib.Core.List.{List, [], _∷_}
+use mathlib.Core.Bool.{Bool, true, false, not, cond, _&&_, _||_, and-eq-true-iff}
+use mathlib.Core.List.{List}
 use lib.ListN.{length, set, length-set, List·getD-eq-default}
 use lib.Seq.{ext-getD, getD-set-same}
-use lib.Dec.{eqb, ltb, leb}
+use lib.Dec.{ltb, leb}
 use borrow.Author.Tests.{ltb-true, ltb-false, leb-true, lt-ltb, le-leb, not-true}
 use Rattle.model.specs.Places.{tab, at, iter}
 use Rattle.model.specs.Ways.{Frame, Lawful, Inside, Joins}
 use Rattle.model.specs.Tables.{raises, raise, relax, sweepTo, sweep, strongest, starts, Came, began, over, Least}
-use Rattle.model.proofs.Descent.{Differ, equal-or-differ, iter-keeps, Still, descent}
+use Rattle.model.proofs.Descent.{equal-or-differ, iter-keeps, descent}
 use Rattle.model.proofs.Places.{length-tab, getD-tab}
 use Rattle.model.proofs.Settle.{until-iter}
 use Rattle.model.proofs.Cover.{set-at}

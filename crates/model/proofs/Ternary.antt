@@ -1,19 +1,19 @@
 -- Of any step to which the laws of runs apply: the ternary run settles in both halves, and its end covers what any order of arrival can end in,
 -- a unit run among it. Assumes nothing.
-use Prim.Native.Nat.{ℕ, zero, suc, _+_, _≤_, _<_}
+use Prim.Native.Nat.{ℕ, zero, suc, _≤_, _<_}
 use native.Mathlib.Nat.{zero-add}
 use native.Mathlib.Omega.{arith}
 use mathlib.Core.Path.{_≡_, refl, ap, _∙_, sym, subst}
-use mathlib.Core.Logic.{_⊎_, inl, inr}
+use mathlib.Core.Logic.{inl, inr}
 use mathlib.Core.Bool.{Bool, true, false, cond, not, true≢false, false≢true}
-use mathlib.Core.List.{List, [], _∷_}
-use lib.ListN.{length, set, length-set, List·getD-eq-default}
+use mathlib.Core.List.{List}
+use lib.ListN.{length, List·getD-eq-default}
 use lib.Dec.{eqb, ltb}
 use borrow.Author.Tests.{eqb-true, eq-eqb, not-false, ltb-true, ltb-false}
-use Rattle.model.specs.Places.{at, iter, same}
+use Rattle.model.specs.Places.{at, iter}
 use Rattle.model.specs.Order.{_⊑_, _≼_}
-use Rattle.model.specs.Cover.{Stepper, May, stays, arrives, follows, Reach, start, move}
-use Rattle.model.specs.Run.{Changes, Ran, put, entered, changed, raised, lowered, settle}
+use Rattle.model.specs.Cover.{Stepper, May, stays, arrives, follows, Reach, begin, move}
+use Rattle.model.specs.Run.{Ran, changed, raised, lowered, settle}
 use Rattle.model.specs.Demands.{Settles, Unsettled, freeNodes, Covered}
 use Rattle.model.proofs.Places.{length-tab, getD-tab}
 use Rattle.model.proofs.Descent.{count-all, iter-keeps, iter-fixed, Still}
@@ -199,7 +199,7 @@ module _ (N : ℕ) (input : ℕ → Bool) (F : List ℕ → List ℕ) (st : Step
 
   -- the new inputs, all at once
   pub all-arrived : Reach N input (changed s to) F to s to
-  all-arrived = move start to (sized-to ∙ sym sized) (λ v. go v (changed s to v) refl)
+  all-arrived = move begin to (sized-to ∙ sym sized) (λ v. go v (changed s to v) refl)
     where
       go : (v : ℕ) (b : Bool) → changed s to v ≡ b → May N input (changed s to) F to s v (at to v)
       go v true e = arrives e refl

@@ -1,23 +1,23 @@
 -- The tables are the strongest ways, whatever work leads there; every node has an unblocked way; the new state is what every unblocked way starts at,
 -- is monotone, and holds for every choice. Of any frame. Assumes nothing.
-use Prim.Native.Nat.{ℕ, zero, suc, min, _+_, _*_, _≤_, _<_}
+use Prim.Native.Nat.{ℕ, zero, suc, min, _+_, _≤_, _<_}
 use native.Mathlib.Omega.{arith}
-use mathlib.Core.Path.{_≡_, refl, ap, _∙_, sym, subst}
+use mathlib.Core.Path.{_≡_, refl, ap, _∙_, sym}
 use mathlib.Core.Logic.{_⊎_, inl, inr, _↔_}
 use mathlib.Core.Bool.{Bool, true, false, not, cond, _&&_, _||_, true≢false, false≢true, and-eq-true-iff}
-use mathlib.Core.List.{List, [], _∷_}
-use lib.ListN.{length, List·getD-eq-default}
-use lib.Dec.{eqb, ltb, leb}
-use borrow.Author.Tests.{eqb-true, eqb-false, eq-eqb, ne-eqb, ltb-true, ltb-false, leb-true, leb-false, le-leb, not-true}
-use Rattle.model.specs.Places.{tab, at}
-use Rattle.model.specs.Net.{Stand, opened, closed, unknown, agreed}
+use mathlib.Core.List.{List, []}
+use lib.ListN.{length}
+use lib.Dec.{eqb, leb}
+use borrow.Author.Tests.{eqb-true, eqb-false, eq-eqb, ne-eqb, leb-true, leb-false, le-leb, not-true}
+use Rattle.model.specs.Places.{at}
+use Rattle.model.specs.Net.{Stand, opened, closed, unknown}
 use Rattle.model.specs.Order.{_⊑_, _≼_}
 use Rattle.model.specs.Cover.{Stepper}
-use Rattle.model.specs.Ways.{Frame, Lawful, Inside, Joins, Way, source, pass, Definite, Unblocked, From, choose, fixed, chosen}
+use Rattle.model.specs.Ways.{Frame, Lawful, Way, source, pass, Definite, Unblocked, From, choose}
 use Rattle.model.specs.Tables.{Came, began, over, Least, starts, StepTables, byTables, Strongest, strongest, definite, against, fresh, stepBy}
 use Rattle.model.proofs.Places.{length-tab, getD-tab, or-true-cases}
 use Rattle.model.proofs.Choices.{Within}
-use Rattle.model.proofs.Agreed.{below-bit, agreed-mono, agreed-cong, agreed-says}
+use Rattle.model.proofs.Agreed.{below-bit, agreed-mono, agreed-says}
 use Rattle.model.proofs.Cover.{within}
 use Rattle.model.proofs.Sweep.{strongest-least}
 
@@ -254,16 +254,6 @@ module _ (F : Frame) (L : Lawful F) where
     fresh-mono v l =
         agreed-mono (none how val v) (none how′ val′ v) (λ b lb e. from-none how val b v l (from-down b v lb (none-from how′ val′ b v l e)))
         (λ x y. one-only how val v l (none-from how val 0 v l x) (none-from how val 1 v l y))
-
-  -- a 0 or 1 holds for every choice of open or closed for the unknown transistors
-  pub fresh-choice : (how : ℕ → Stand) (val : ℕ → ℕ) (c : ℕ → Bool) (v : ℕ) → v < F .size → (b : ℕ) → b < 2 → fresh F how val v ≡ b → fresh F (chosen how c) val v ≡ b
-  fresh-choice how val c v l b lb e =
-      below-bit (fresh F (chosen how c) val v) (fresh F how val v) b (fresh-mono (chosen how c) how val val (λ t lt. chosen-within (how t) (c t)) (λ i. inl refl) v l) e lb
-    where
-      chosen-within : (x : Stand) (b : Bool) → Within (fixed x b) x
-      chosen-within opened b = inl refl
-      chosen-within closed b = inl refl
-      chosen-within unknown b = inr refl
 
   -- tables that are equal below the number of nodes do for one another
   came-cong : (ok : ℕ → Bool) (low low′ start start′ : ℕ → ℕ) → ((v : ℕ) → v < F .size → low v ≡ low′ v) → ((v : ℕ) → v < F .size → start v ≡ start′ v)

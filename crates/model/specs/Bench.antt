@@ -4,7 +4,7 @@ use mathlib.Core.Path.{_≡_, refl}
 use mathlib.Core.List.{List, [], _∷_, _++_}
 use Rattle.model.specs.Places.{tab}
 use Rattle.model.specs.Net.{Net, stands, linked, spread, joined, strength, setState, new, step}
-use Rattle.model.specs.Run.{Changes, raised, lowered, unitSteps, firstHalf, secondHalf}
+use Rattle.model.specs.Run.{changesOf, raised, lowered, unitSteps, firstHalf, secondHalf}
 use Rattle.model.specs.Answer.{row}
 use Rattle.model.specs.Rules.{wireTests, changeTests, stepSizes, runSizes, runRules, unitRules, ternaryRules}
 use Rattle.model.specs.Entries.{Outcome, altered, cleared, unitOutcome, ternaryOutcome}
@@ -18,10 +18,10 @@ abbrev pub line : Outcome → List ℕ
 line o = row (o .answer) ++ o .states
 
 abbrev unit : Net → List ℕ → List ℕ → List ℕ → ℕ → List ℕ
-unit net s ps vs limit = line (unitOutcome net s (record { places = ps; values = vs }) limit work)
+unit net s ps vs limit = line (unitOutcome net s (changesOf ps vs) limit work)
 
 abbrev ternary : Net → List ℕ → List ℕ → List ℕ → List ℕ
-ternary net s ps vs = line (ternaryOutcome net s (record { places = ps; values = vs }) work)
+ternary net s ps vs = line (ternaryOutcome net s (changesOf ps vs) work)
 
 abbrev pub INV : Net
 INV = record { kinds = 2 ∷ 2 ∷ 1 ∷ []; types = 0 ∷ []; gates = 1 ∷ []; sources = 0 ∷ []; drains = 2 ∷ [] }

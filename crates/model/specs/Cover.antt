@@ -3,9 +3,8 @@
 use Prim.Native.Nat.{ℕ, _<_}
 use mathlib.Core.Path.{_≡_}
 use mathlib.Core.Bool.{Bool, true, false}
-use mathlib.Core.Logic.{_⊎_}
 use mathlib.Core.List.{List}
-use lib.ListN.{length}
+use lib.ListN.{length, set}
 use Rattle.model.specs.Places.{at}
 use Rattle.model.specs.Order.{_≼_}
 
@@ -23,7 +22,13 @@ module _ (n : ℕ) (input changed : ℕ → Bool) (f : List ℕ → List ℕ) (t
     arrives : changed v ≡ true → x ≡ at to v → May s v x
     follows : v < n → input v ≡ false → x ≡ at (f s) v → May s v x
 
-  -- any nodes move at once: one by one is the case in which all others stay
+  -- any nodes move at once
   pub data Reach (from : List ℕ) : List ℕ → Type 0 where
-    start : Reach from from
+    begin : Reach from from
     move : {s : List ℕ} → Reach from s → (t : List ℕ) → length t ≡ length s → ((v : ℕ) → May s v (at t v)) → Reach from t
+
+  -- the same, one by one: a changed input arrives, or a node that is no input takes its step's state
+  pub data OneByOne (from : List ℕ) : List ℕ → Type 0 where
+    start : OneByOne from from
+    arrive : {s : List ℕ} → OneByOne from s → (v : ℕ) → changed v ≡ true → OneByOne from (set s v (at to v))
+    follow : {s : List ℕ} → OneByOne from s → (v : ℕ) → v < n → input v ≡ false → OneByOne from (set s v (at (f s) v))

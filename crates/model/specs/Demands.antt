@@ -4,8 +4,11 @@ use mathlib.Core.Path.{_≡_}
 use mathlib.Core.Bool.{Bool, true, false, not}
 use mathlib.Core.Logic.{_⊎_}
 use mathlib.Core.List.{List, [], _∷_}
+use lib.ListN.{length}
+use Rattle.model.specs.Bounds.{highestState}
 use Rattle.model.specs.Places.{iter, at, count}
-use Rattle.model.specs.Run.{Changes, entered, changed, raised, lowered}
+use Rattle.model.specs.Net.{Stand, opened, closed, unknown}
+use Rattle.model.specs.Run.{Changes, changed, raised, lowered}
 use Rattle.model.specs.Answer.{number}
 use Rattle.model.specs.Rules.{Rule}
 use Rattle.model.specs.Order.{_≼_}
@@ -13,6 +16,21 @@ use Rattle.model.specs.Cover.{Reach}
 use Rattle.model.specs.declared.Answer.{Answer}
 use Rattle.model.specs.declared.Verdict.{Verdict}
 use Rattle.model.specs.declared.Verdict.the-variants.{Accepted, Refused}
+
+-- open (false) or closed (true) is a choice for a transistor that stands so
+abbrev pub Fits : Stand → Bool → Type 0
+Fits opened true = ⊥
+Fits opened false = Unit {0}
+Fits closed true = Unit {0}
+Fits closed false = ⊥
+Fits unknown b = Unit {0}
+
+-- c is a choice for all of them
+abbrev pub Choice : List Stand → List Bool → Type 0
+Choice [] [] = Unit {0}
+Choice [] (b ∷ c) = ⊥
+Choice (x ∷ r) [] = ⊥
+Choice (x ∷ r) (b ∷ c) = Fits x b × Choice r c
 
 -- no rule is broken
 abbrev pub Clean : List Rule → Type 0
@@ -36,6 +54,17 @@ Judged rs (Refused a) = Broken rs a
 -- where a refusal applies, the answer applies too and has no higher number
 abbrev pub Lowest : List Rule → Answer → Type 0
 Lowest rs a = (b : Answer) → Applies rs b → Applies rs a × (number a ≤ number b)
+
+-- an outcome is what is accepted where no rule is broken, and else what the refusal of the first broken rule, at its first place, gives
+abbrev pub Told : {A : Type 0} → List Rule → (Answer → A) → A → A → Type 0
+Told rs refuse accept o = (Clean rs × (o ≡ accept)) ⊎ ((a : Answer) × Broken rs a × (o ≡ refuse a))
+
+-- the change list names inputs below n, each once, with states
+pub record Enterable (n : ℕ) (input : ℕ → Bool) (ch : Changes) : Type 0 where
+  pub below : (e : ℕ) → e < length (ch .places) → at (ch .places) e < n
+  pub inputs : (e : ℕ) → e < length (ch .places) → input (at (ch .places) e) ≡ true
+  pub known : (e : ℕ) → e < length (ch .places) → at (ch .values) e ≤ highestState
+  pub once : (k e : ℕ) → k < e → e < length (ch .places) → at (ch .places) k ≡ at (ch .places) e → ⊥
 
 -- k is the least number of steps after which the state is settled, it is at most `top`, and x is that state
 pub record Settles (f : List ℕ → List ℕ) (top : ℕ) (from : List ℕ) (k : ℕ) (x : List ℕ) : Type 0 where

@@ -6,7 +6,7 @@ use mathlib.Core.Bool.{Bool, true, false}
 use mathlib.Core.List.{List, [], _∷_, _++_}
 use Rattle.model.specs.Places.{any}
 use Rattle.model.specs.Net.{Net, Stand, opened, closed, unknown, stand, stands, linked, spread, joined, strength, setState, new, step}
-use Rattle.model.specs.Run.{Changes, raised, lowered, unitSteps, firstHalf, secondHalf}
+use Rattle.model.specs.Run.{changesOf, raised, lowered, unitSteps, firstHalf, secondHalf}
 use Rattle.model.specs.Answer.{row}
 use Rattle.model.specs.Rules.{nodeSizes, wireSizes, changeSizes, wireTests, changeTests, checkSizes, checkRules, resetSizes, resetRules, stepRules, stepSizes, runSizes, runRules, unitRules, ternaryRules}
 use Rattle.model.specs.Entries.{Outcome, altered, cleared, checkAnswer, resetOutcome, stepOutcome, unitOutcome, ternaryOutcome}
@@ -25,8 +25,9 @@ bare kinds t = record { kinds = kinds; types = many t 2; gates = many t 0; sourc
 abbrev one : ℕ → ℕ → ℕ → ℕ → ℕ → Net
 one kind type gate source drain = record { kinds = 2 ∷ kind ∷ 0 ∷ []; types = type ∷ []; gates = gate ∷ []; sources = source ∷ []; drains = drain ∷ [] }
 
-abbrev changes : List ℕ → List ℕ → Changes
-changes ps vs = record { places = ps; values = vs }
+-- two inverters in a row: 0 I, 1 I, 2 P, 3 P; n(1; 0, 2), n(2; 0, 3)
+abbrev TWO : Net
+TWO = record { kinds = 2 ∷ 2 ∷ 1 ∷ 1 ∷ []; types = 0 ∷ 0 ∷ []; gates = 1 ∷ 2 ∷ []; sources = 0 ∷ 0 ∷ []; drains = 2 ∷ 3 ∷ [] }
 
 abbrev left : Outcome → List ℕ
 left o = o .work
@@ -45,8 +46,8 @@ large =
     ∷ any (nodeSizes (many 4097 0))
     ∷ any (wireSizes (bare (0 ∷ []) 8192))
     ∷ any (wireSizes (bare (0 ∷ []) 8193))
-    ∷ any (changeSizes (changes (many 4096 0) (many 4096 0)))
-    ∷ any (changeSizes (changes (many 4097 0) (many 4097 0)))
+    ∷ any (changeSizes (changesOf (many 4096 0) (many 4096 0)))
+    ∷ any (changeSizes (changesOf (many 4097 0) (many 4097 0)))
     ∷ []
 
 abbrev largeSo : List Bool
@@ -75,6 +76,9 @@ seen =
     -- both ends one node, both ends inputs: no effect
     ∷ line (stepOutcome (one 0 2 2 1 1) (1 ∷ 0 ∷ 1 ∷ []) (many 14 9))
     ∷ line (stepOutcome (one 2 2 2 0 1) (1 ∷ 0 ∷ 1 ∷ []) (many 14 9))
+    -- the second inverter reads what the first had before the step
+    ∷ line (stepOutcome TWO (0 ∷ 1 ∷ 1 ∷ 0 ∷ []) (many 20 9))
+    ∷ line (unitOutcome TWO (0 ∷ 1 ∷ 1 ∷ 0 ∷ []) (changesOf [] []) 0 (many 20 9))
     -- the work area exact, and one cell less; a state above X; what is left in the area
     ∷ line (stepOutcome INV (0 ∷ 1 ∷ 1 ∷ []) (many 14 9))
     ∷ line (stepOutcome INV (0 ∷ 1 ∷ 1 ∷ []) (many 13 9))
@@ -82,28 +86,28 @@ seen =
     ∷ left (stepOutcome INV (0 ∷ 1 ∷ 1 ∷ []) (many 16 9))
     ∷ left (stepOutcome INV (0 ∷ 1 ∷ 3 ∷ []) (many 16 9))
     -- limits: the highest and one more; reached exactly; not reached; the default
-    ∷ line (unitOutcome INV (0 ∷ 1 ∷ 1 ∷ []) (changes [] []) 10000 (many 14 9))
-    ∷ line (unitOutcome INV (0 ∷ 1 ∷ 1 ∷ []) (changes [] []) 10001 (many 14 9))
-    ∷ line (unitOutcome INV (0 ∷ 1 ∷ 1 ∷ []) (changes [] []) 1 (many 14 9))
-    ∷ line (unitOutcome RING (0 ∷ 0 ∷ []) (changes [] []) 1 (many 10 9))
-    ∷ line (unitOutcome RING (0 ∷ 0 ∷ []) (changes [] []) 0 (many 10 9))
-    ∷ left (unitOutcome RING (0 ∷ 0 ∷ []) (changes [] []) 1 (many 12 9))
-    ∷ left (unitOutcome INV (0 ∷ 1 ∷ 1 ∷ []) (changes [] []) 10001 (many 16 9))
+    ∷ line (unitOutcome INV (0 ∷ 1 ∷ 1 ∷ []) (changesOf [] []) 10000 (many 14 9))
+    ∷ line (unitOutcome INV (0 ∷ 1 ∷ 1 ∷ []) (changesOf [] []) 10001 (many 14 9))
+    ∷ line (unitOutcome INV (0 ∷ 1 ∷ 1 ∷ []) (changesOf [] []) 1 (many 14 9))
+    ∷ line (unitOutcome RING (0 ∷ 0 ∷ []) (changesOf [] []) 1 (many 10 9))
+    ∷ line (unitOutcome RING (0 ∷ 0 ∷ []) (changesOf [] []) 0 (many 10 9))
+    ∷ left (unitOutcome RING (0 ∷ 0 ∷ []) (changesOf [] []) 1 (many 12 9))
+    ∷ left (unitOutcome INV (0 ∷ 1 ∷ 1 ∷ []) (changesOf [] []) 10001 (many 16 9))
     -- changes: no node, no input, no state, a node named earlier, one state for two nodes; an input changed to what it is
-    ∷ line (unitOutcome INV (0 ∷ 1 ∷ 0 ∷ []) (changes (3 ∷ []) (1 ∷ [])) 0 (many 14 9))
-    ∷ line (unitOutcome INV (0 ∷ 1 ∷ 0 ∷ []) (changes (1 ∷ 2 ∷ []) (1 ∷ 1 ∷ [])) 0 (many 14 9))
-    ∷ line (unitOutcome INV (0 ∷ 1 ∷ 0 ∷ []) (changes (1 ∷ []) (3 ∷ [])) 0 (many 14 9))
-    ∷ line (ternaryOutcome INV (0 ∷ 1 ∷ 0 ∷ []) (changes (1 ∷ 0 ∷ 1 ∷ []) (1 ∷ 0 ∷ 0 ∷ [])) (many 14 9))
-    ∷ line (ternaryOutcome INV (0 ∷ 1 ∷ 0 ∷ []) (changes (1 ∷ 0 ∷ []) (1 ∷ [])) (many 14 9))
-    ∷ line (ternaryOutcome LATCH (1 ∷ 0 ∷ 0 ∷ []) (changes (0 ∷ []) (1 ∷ [])) (many 14 9))
+    ∷ line (unitOutcome INV (0 ∷ 1 ∷ 0 ∷ []) (changesOf (3 ∷ []) (1 ∷ [])) 0 (many 14 9))
+    ∷ line (unitOutcome INV (0 ∷ 1 ∷ 0 ∷ []) (changesOf (1 ∷ 2 ∷ []) (1 ∷ 1 ∷ [])) 0 (many 14 9))
+    ∷ line (unitOutcome INV (0 ∷ 1 ∷ 0 ∷ []) (changesOf (1 ∷ []) (3 ∷ [])) 0 (many 14 9))
+    ∷ line (ternaryOutcome INV (0 ∷ 1 ∷ 0 ∷ []) (changesOf (1 ∷ 0 ∷ 1 ∷ []) (1 ∷ 0 ∷ 0 ∷ [])) (many 14 9))
+    ∷ line (ternaryOutcome INV (0 ∷ 1 ∷ 0 ∷ []) (changesOf (1 ∷ 0 ∷ []) (1 ∷ [])) (many 14 9))
+    ∷ line (ternaryOutcome LATCH (1 ∷ 0 ∷ 0 ∷ []) (changesOf (0 ∷ []) (1 ∷ [])) (many 14 9))
     -- inputs only; no changes, settled and not; the work area after START and after CHANGE
-    ∷ line (unitOutcome (bare (2 ∷ 2 ∷ []) 1) (0 ∷ 1 ∷ []) (changes (1 ∷ []) (1 ∷ [])) 1 (many 10 9))
-    ∷ line (ternaryOutcome INV (0 ∷ 1 ∷ 0 ∷ []) (changes [] []) (many 14 9))
-    ∷ line (ternaryOutcome INV (0 ∷ 1 ∷ 1 ∷ []) (changes [] []) (many 14 9))
-    ∷ line (ternaryOutcome INV (0 ∷ 1 ∷ 1 ∷ []) (changes (1 ∷ []) (0 ∷ [])) (many 14 9))
-    ∷ left (ternaryOutcome INV (0 ∷ 1 ∷ 0 ∷ []) (changes (1 ∷ []) (0 ∷ [])) (many 16 9))
-    ∷ left (ternaryOutcome INV (0 ∷ 1 ∷ 1 ∷ []) (changes [] []) (many 16 9))
-    ∷ left (ternaryOutcome INV (0 ∷ 1 ∷ 1 ∷ []) (changes (2 ∷ []) (1 ∷ [])) (many 16 9))
+    ∷ line (unitOutcome (bare (2 ∷ 2 ∷ []) 1) (0 ∷ 1 ∷ []) (changesOf (1 ∷ []) (1 ∷ [])) 1 (many 10 9))
+    ∷ line (ternaryOutcome INV (0 ∷ 1 ∷ 0 ∷ []) (changesOf [] []) (many 14 9))
+    ∷ line (ternaryOutcome INV (0 ∷ 1 ∷ 1 ∷ []) (changesOf [] []) (many 14 9))
+    ∷ line (ternaryOutcome INV (0 ∷ 1 ∷ 1 ∷ []) (changesOf (1 ∷ []) (0 ∷ [])) (many 14 9))
+    ∷ left (ternaryOutcome INV (0 ∷ 1 ∷ 0 ∷ []) (changesOf (1 ∷ []) (0 ∷ [])) (many 16 9))
+    ∷ left (ternaryOutcome INV (0 ∷ 1 ∷ 1 ∷ []) (changesOf [] []) (many 16 9))
+    ∷ left (ternaryOutcome INV (0 ∷ 1 ∷ 1 ∷ []) (changesOf (2 ∷ []) (1 ∷ [])) (many 16 9))
     ∷ []
 
 abbrev seenSo : List (List ℕ)
@@ -126,6 +130,8 @@ seenSo =
     ∷ (0 ∷ 0 ∷ 1 ∷ 0 ∷ 1 ∷ 2 ∷ 2 ∷ [])
     ∷ (0 ∷ 0 ∷ 0 ∷ 0 ∷ 1 ∷ 0 ∷ 1 ∷ [])
     ∷ (0 ∷ 0 ∷ 0 ∷ 0 ∷ 1 ∷ 0 ∷ 1 ∷ [])
+    ∷ (0 ∷ 0 ∷ 1 ∷ 0 ∷ 0 ∷ 1 ∷ 0 ∷ 0 ∷ [])
+    ∷ (0 ∷ 0 ∷ 2 ∷ 0 ∷ 0 ∷ 1 ∷ 0 ∷ 1 ∷ [])
     ∷ (0 ∷ 0 ∷ 1 ∷ 0 ∷ 0 ∷ 1 ∷ 0 ∷ [])
     ∷ (1 ∷ 0 ∷ 0 ∷ 0 ∷ 0 ∷ 1 ∷ 1 ∷ [])
     ∷ (5 ∷ 2 ∷ 0 ∷ 0 ∷ 0 ∷ 1 ∷ 3 ∷ [])

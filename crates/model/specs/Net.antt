@@ -4,7 +4,7 @@ use mathlib.Core.Bool.{Bool, true, false, not, cond, _&&_, _||_}
 use mathlib.Core.List.{List, [], _∷_}
 use lib.ListN.{length, getD}
 use lib.Dec.{eqb}
-use Rattle.model.specs.Places.{tab, iter, every, some, most, imp, at, same}
+use Rattle.model.specs.Places.{tab, iter, every, some, most, imp, at}
 
 -- the tables: a kind for each node; a type, a gate, a source and a drain for each transistor
 pub record Net : Type 0 where
@@ -13,6 +13,10 @@ pub record Net : Type 0 where
   pub gates : List ℕ
   pub sources : List ℕ
   pub drains : List ℕ
+
+-- the lent tables as a network
+abbrev pub netOf : List ℕ → List ℕ → List ℕ → List ℕ → List ℕ → Net
+netOf kinds types gates sources drains = record { kinds = kinds; types = types; gates = gates; sources = sources; drains = drains }
 
 abbrev pub nodes : Net → ℕ
 nodes net = length (net .kinds)

@@ -12,6 +12,10 @@ pub record Changes : Type 0 where
   pub places : List ℕ
   pub values : List ℕ
 
+-- the two lent lists as changes
+abbrev pub changesOf : List ℕ → List ℕ → Changes
+changesOf places values = record { places = places; values = values }
+
 abbrev pub put : List ℕ → List ℕ → List ℕ → List ℕ
 put s [] vs = s
 put s (p ∷ ps) [] = s

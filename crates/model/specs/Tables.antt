@@ -3,7 +3,7 @@ use Prim.Native.Nat.{ℕ, zero, suc, min, _*_, _≤_, _<_}
 use mathlib.Core.Path.{_≡_}
 use mathlib.Core.Logic.{_⊎_}
 use mathlib.Core.Bool.{Bool, true, false, not, cond, _&&_, _||_}
-use mathlib.Core.List.{List, [], _∷_}
+use mathlib.Core.List.{List, []}
 use lib.ListN.{set}
 use lib.Dec.{eqb, ltb, leb}
 use Rattle.model.specs.Places.{tab, at, same}

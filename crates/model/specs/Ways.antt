@@ -53,13 +53,3 @@ abbrev pub choose : Stand → Bool → Bool
 choose opened b = false
 choose closed b = true
 choose unknown b = b
-
--- how the transistors stand once open (false) or closed (true) is chosen for the unknown ones
-abbrev pub fixed : Stand → Bool → Stand
-fixed opened b = opened
-fixed closed b = closed
-fixed unknown true = closed
-fixed unknown false = opened
-
-abbrev pub chosen : (ℕ → Stand) → (ℕ → Bool) → ℕ → Stand
-chosen how c t = fixed (how t) (c t)

@@ -1,7 +1,32 @@
 // What an entry answers, shared by the code and by the definitions of its meaning (specs/). The definitions of a network, of its
 // steps and of its runs are in specs/, what is proved of them in proofs/.
 ghost use mathlib.Core.Path.{_≡_};
+ghost use Rattle.model.specs.Net.{inputKind};
 ghost use Rattle.model.specs.Answer.{number, place, firstCount, secondCount};
+
+// The bounds on what is lent; Bounds.antt has them for the definitions, and the contracts hold the two together.
+pub const MOST_NODES: usize = 4096;
+
+pub const MOST_TRANSISTORS: usize = 8192;
+
+pub const MOST_CHANGES: usize = 4096;
+
+pub const HIGHEST_KIND: u8 = 2;
+
+pub const HIGHEST_TYPE: u8 = 2;
+
+pub const HIGHEST_STATE: u8 = 2;
+
+pub const HIGHEST_LIMIT: u32 = 10000;
+
+pub const DEFAULT_LIMIT: u32 = 100;
+
+// The one place in the code that says which kinds are inputs.
+pub fn is_input(kind: u8) -> bool
+    ensures { λ r. ⌜ r ≡ inputKind kind ⌝ }
+{
+    kind == 2
+}
 
 // One of nine kinds, each with its own numbers.
 pub enum Answer {

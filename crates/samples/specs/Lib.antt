@@ -1,0 +1,2 @@
+-- What the model's definitions compute on random networks, against an outside program.
+pub mod Samples
