@@ -1,10 +1,9 @@
 -- How the judges go through the rules: past those that are not broken, to the first that is. Assumes nothing.
 use Prim.Native.Nat.{ℕ, _≤_, _<_}
-use mathlib.Core.Path.{_≡_, refl, ap, _∙_, sym}
+use mathlib.Core.Path.{_≡_, ap, _∙_, sym}
 use mathlib.Core.Bool.{Bool, true, false}
 use mathlib.Core.List.{List, [], _∷_, _++_}
 use borrow.Author.Tests.{lt-ltb, le-ltb}
-use lib.Dec.{ltb}
 use Rattle.model.specs.Bounds.{highestLimit}
 use Rattle.model.specs.Places.{any, first}
 use Rattle.model.specs.Rules.{Rule, judge, given, sizeRule, limitRule}
@@ -12,19 +11,7 @@ use Rattle.model.specs.declared.Answer.{Answer}
 use Rattle.model.specs.declared.Answer.the-variants.{Size, Limit}
 use Rattle.model.specs.declared.Verdict.{Verdict}
 use Rattle.model.specs.declared.Verdict.the-variants.{Accepted, Refused}
-
--- rules before others: their refusal is the refusal of all, and their acceptance leaves the others
-pub judge-append : (rs qs : List Rule) → judge (rs ++ qs) ≡ given (judge rs) Refused (judge qs)
-judge-append [] qs = refl
-judge-append (r ∷ rs) qs = go (ltb (first (r .places) (r .breaks)) (r .places)) (judge-append rs qs)
-  where
-    a : Verdict
-    a = Refused (r .refusal (first (r .places) (r .breaks)))
-
-    go : (b : Bool) → judge (rs ++ qs) ≡ given (judge rs) Refused (judge qs)
-        → elim b as (λ x. Verdict) [ true ↦ a | false ↦ judge (rs ++ qs) ] ≡ given (elim b as (λ x. Verdict) [ true ↦ a | false ↦ judge rs ]) Refused (judge qs)
-    go true h = refl
-    go false h = h
+use Rattle.model.proofs.Judged.{judge-append}
 
 -- what a judge has found of the first rules, v, serves for all
 module _ (rs qs : List Rule) (v : Verdict) (e : v ≡ judge rs) where

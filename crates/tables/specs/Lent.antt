@@ -1,21 +1,13 @@
--- What is lent as one network, and what a step or a run may rely on once it is accepted. Assumes nothing.
+-- What a step or a run may rely on once what is lent is accepted. Assumes nothing.
 use Prim.Native.Nat.{ℕ, _≤_, _<_}
 use mathlib.Core.Path.{_≡_}
-use mathlib.Core.Bool.{true}
 use mathlib.Core.List.{List}
 use lib.ListN.{length}
 use Rattle.model.specs.Bounds.{mostNodes, mostTransistors, mostChanges, highestKind, highestType, highestState}
 use Rattle.model.specs.Places.{at}
-use Rattle.model.specs.Net.{Net, nodes, transistors, isInput}
+use Rattle.model.specs.Net.{Net, nodes, transistors}
 use Rattle.model.specs.Run.{Changes}
 use Rattle.model.specs.Rules.{cells}
-
--- the five tables as a network, the two lists as changes
-abbrev pub netOf : List ℕ → List ℕ → List ℕ → List ℕ → List ℕ → Net
-netOf kinds types gates sources drains = record { kinds = kinds; types = types; gates = gates; sources = sources; drains = drains }
-
-abbrev pub changesOf : List ℕ → List ℕ → Changes
-changesOf places values = record { places = places; values = values }
 
 -- the four transistor tables are of equal length
 pub record Level (net : Net) : Type 0 where
@@ -50,11 +42,3 @@ pub record Fit (net : Net) (s w : List ℕ) : Type 0 where
   pub states-level : length s ≡ nodes net
   pub state-is : (v : ℕ) → v < nodes net → at s v ≤ highestState
   pub room : cells net ≤ length w
-
--- with changes that can be entered: inputs, each named once
-pub record Enterable (net : Net) (ch : Changes) : Type 0 where
-  pub sized : SizedChanges ch
-  pub node-is : (e : ℕ) → e < length (ch .places) → at (ch .places) e < nodes net
-  pub input-is : (e : ℕ) → e < length (ch .places) → isInput net (at (ch .places) e) ≡ true
-  pub state-is : (e : ℕ) → e < length (ch .places) → at (ch .values) e ≤ highestState
-  pub named-once : (e k : ℕ) → e < length (ch .places) → k < e → at (ch .places) k ≡ at (ch .places) e → ⊥

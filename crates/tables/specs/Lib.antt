@@ -1,2 +1,2 @@
--- What is lent as one network, and what is known of it once it is accepted.
+-- What is known of what is lent once it is accepted.
 pub mod Lent

@@ -4,6 +4,9 @@ pub mod places;
 pub mod sizes;
 
 use model::Answer;
+use model::HIGHEST_KIND;
+use model::HIGHEST_LIMIT;
+use model::HIGHEST_STATE;
 use model::Verdict;
 use places::first_above;
 use places::first_wrong_change;
@@ -17,18 +20,17 @@ ghost use mathlib.Core.Path.{_≡_};
 ghost use mathlib.Core.List.{[], _∷_};
 ghost use lib.ListN.{length};
 ghost use Rattle.model.specs.Bounds.{mostNodes};
+ghost use Rattle.model.specs.Net.{netOf};
+ghost use Rattle.model.specs.Run.{changesOf};
 ghost use Rattle.model.specs.Rules.{judge, kindRule, wireRule, stateRule, changeRule, checkRules, resetRules, stepRules, runRules, unitRules, ternaryRules};
-ghost use Rattle.tables.specs.Lent.{netOf, changesOf, Sized, SizedChanges};
+ghost use Rattle.tables.specs.Lent.{Sized, SizedChanges};
 
-// The highest step limit.
-const HIGHEST_LIMIT: u32 = 10000;
-
-// The kinds: 0 normal, 1 pullup, 2 input.
+// The kinds.
 fn judge_kinds(kinds: &[u8]) -> Verdict
     requires { ⌜ length (now kinds) ≤ mostNodes ⌝ }
     ensures { λ r. ⌜ r ≡ judge (kindRule (now (kinds .entry)) ∷ []) ⌝ }
 {
-    let v = first_above(kinds, 2);
+    let v = first_above(kinds, HIGHEST_KIND);
     if v < kinds.len() {
         Verdict::Refused(Answer::Kind(v as u32))
     } else {
@@ -75,7 +77,7 @@ fn judge_contents(
     let Verdict::Accepted = verdict else {
         return verdict;
     };
-    let v = first_above(states, 2);
+    let v = first_above(states, HIGHEST_STATE);
     if v < states.len() {
         Verdict::Refused(Answer::State(v as u32))
     } else {

@@ -1,12 +1,17 @@
 // The first bad place of each table that is lent, or the table's length where there is none.
+use model::HIGHEST_STATE;
+use model::HIGHEST_TYPE;
+use model::is_input;
 ghost use Prim.Native.Nat.{_<_};
 ghost use mathlib.Core.Path.{_≡_};
 ghost use mathlib.Core.List.{[]};
 ghost use lib.ListN.{length};
 ghost use lib.Dec.{eqb, ltb};
 ghost use Rattle.model.specs.Places.{some, any, first, at};
+ghost use Rattle.model.specs.Net.{netOf};
+ghost use Rattle.model.specs.Run.{changesOf};
 ghost use Rattle.model.specs.Rules.{wireTests, changeTests};
-ghost use Rattle.tables.specs.Lent.{netOf, changesOf, Level};
+ghost use Rattle.tables.specs.Lent.{Level};
 
 // The first byte above m.
 pub fn first_above(s: &[u8], m: u8) -> usize
@@ -42,7 +47,7 @@ fn wrong_wire(
     ensures { λ r. ⌜ r ≡ any (wireTests (netOf (now (kinds .entry)) (now (types .entry)) (now (gates .entry)) (now (sources .entry)) (now (drains .entry))) t) ⌝ }
 {
     let n = kinds.len();
-    if types[t] > 2 {
+    if types[t] > HIGHEST_TYPE {
         return true;
     }
     if wide(gates[t]) >= n {
@@ -101,10 +106,10 @@ fn wrong_change(kinds: &[u8], named: &[u16], values: &[u8], e: usize) -> bool
     if v >= kinds.len() {
         return true;
     }
-    if kinds[v] != 2 {
+    if !is_input(kinds[v]) {
         return true;
     }
-    if values[e] > 2 {
+    if values[e] > HIGHEST_STATE {
         return true;
     }
     named_before(named, e)

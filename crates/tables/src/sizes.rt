@@ -1,17 +1,15 @@
 // The tests of SIZE: whether a length that is lent breaks the bounds or the equal lengths.
+use model::MOST_CHANGES;
+use model::MOST_NODES;
+use model::MOST_TRANSISTORS;
 ghost use Prim.Native.Nat.{_≤_};
 ghost use mathlib.Core.Path.{_≡_};
 ghost use mathlib.Core.List.{[], _++_};
 ghost use Rattle.model.specs.Bounds.{mostNodes, mostTransistors, cellsFor};
 ghost use Rattle.model.specs.Places.{any};
+ghost use Rattle.model.specs.Net.{netOf};
+ghost use Rattle.model.specs.Run.{changesOf};
 ghost use Rattle.model.specs.Rules.{nodeSizes, wireSizes, changeSizes, checkSizes, resetSizes, stepSizes, runSizes};
-ghost use Rattle.tables.specs.Lent.{netOf, changesOf};
-
-const MOST_NODES: usize = 4096;
-
-const MOST_TRANSISTORS: usize = 8192;
-
-const MOST_CHANGES: usize = 4096;
 
 // The work cells that a network of so many nodes and transistors needs.
 pub fn cells_for(nodes: usize, transistors: usize) -> usize

@@ -6,7 +6,7 @@ ghost use mathlib.Core.Path.{_≡_};
 ghost use lib.ListN.{length};
 ghost use Rattle.model.specs.Places.{tab};
 ghost use Rattle.model.specs.Entries.{checkAnswer, resetOutcome};
-ghost use Rattle.tables.specs.Lent.{netOf};
+ghost use Rattle.model.specs.Net.{netOf};
 
 // DONE, with counts of 0.
 fn done() -> Answer

@@ -2,8 +2,8 @@
 use mathlib.Core.Path.{sym, _∙_}
 use mathlib.Core.List.{[], _∷_}
 use borrow.Author.Needs.{needs}
+use Rattle.model.specs.Net.{netOf}
 use Rattle.model.specs.Rules.{kindRule, wireRule, checkSizes, checkRules}
-use Rattle.tables.specs.Lent.{netOf}
 use Rattle.tables.proofs.Fitting.{check-sized}
 use Rattle.tables.proofs.Judging.{size-broken, size-kept}
 use Rattle.tables.proofs.judge_check.Statement.{statement}

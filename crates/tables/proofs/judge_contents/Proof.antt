@@ -1,8 +1,8 @@
 -- `judge_contents` meets its contract: a refusal of the tables stands; else the search over the states decides. Assumes nothing.
 use mathlib.Core.List.{[], _∷_}
 use borrow.Author.Needs.{needs}
+use Rattle.model.specs.Net.{netOf}
 use Rattle.model.specs.Rules.{kindRule, wireRule, stateRule}
-use Rattle.tables.specs.Lent.{netOf}
 use Rattle.tables.proofs.Judging.{refused-first, accepted-first, rule-broken, rule-kept}
 use Rattle.tables.proofs.judge_contents.Statement.{statement}
 use Rattle.tables.proofs.judge_contents.Tie as tie

@@ -1,8 +1,9 @@
 -- `judge_run` meets its contract: a refusal of tables or states stands; else the search over the changes decides. Assumes nothing.
 use mathlib.Core.List.{[], _∷_}
 use borrow.Author.Needs.{needs}
+use Rattle.model.specs.Net.{netOf}
+use Rattle.model.specs.Run.{changesOf}
 use Rattle.model.specs.Rules.{kindRule, wireRule, stateRule, changeRule, changeTests, runRules}
-use Rattle.tables.specs.Lent.{netOf, changesOf}
 use Rattle.tables.proofs.Judging.{refused-first, accepted-first, rule-broken, rule-kept}
 use Rattle.tables.proofs.judge_run.Statement.{statement}
 use Rattle.tables.proofs.judge_run.Tie as tie

@@ -2,8 +2,8 @@
 use mathlib.Core.Path.{sym, _∙_}
 use mathlib.Core.List.{[], _∷_}
 use borrow.Author.Needs.{needs}
+use Rattle.model.specs.Net.{netOf}
 use Rattle.model.specs.Rules.{kindRule, wireRule, stateRule, stepSizes, stepRules}
-use Rattle.tables.specs.Lent.{netOf}
 use Rattle.tables.proofs.Fitting.{step-sized}
 use Rattle.tables.proofs.Judging.{size-broken, size-kept}
 use Rattle.tables.proofs.judge_step.Statement.{statement}

@@ -1,8 +1,8 @@
 -- `judge_tables` meets its contract: a refusal of the kinds stands; else the search over the transistors decides. Assumes nothing.
 use mathlib.Core.List.{[], _∷_}
 use borrow.Author.Needs.{needs}
+use Rattle.model.specs.Net.{netOf}
 use Rattle.model.specs.Rules.{kindRule, wireRule}
-use Rattle.tables.specs.Lent.{netOf}
 use Rattle.tables.proofs.Judging.{refused-first, accepted-first, rule-broken, rule-kept}
 use Rattle.tables.proofs.judge_tables.Statement.{statement}
 use Rattle.tables.proofs.judge_tables.Tie as tie

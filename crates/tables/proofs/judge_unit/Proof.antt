@@ -2,8 +2,9 @@
 use mathlib.Core.Path.{sym, _∙_}
 use mathlib.Core.List.{_∷_}
 use borrow.Author.Needs.{needs}
+use Rattle.model.specs.Net.{netOf}
+use Rattle.model.specs.Run.{changesOf}
 use Rattle.model.specs.Rules.{limitRule, runSizes, runRules, unitRules}
-use Rattle.tables.specs.Lent.{netOf, changesOf}
 use Rattle.tables.proofs.Fitting.{step-sized, run-sized}
 use Rattle.tables.proofs.Judging.{size-broken, size-kept, limit-broken, limit-kept}
 use Rattle.tables.proofs.judge_unit.Statement.{statement}

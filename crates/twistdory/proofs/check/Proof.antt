@@ -1,10 +1,10 @@
 -- `check` meets its contract: the verdict's refusal, else DONE. Assumes nothing.
 use mathlib.Core.Path.{_∙_}
 use borrow.Author.Needs.{needs}
+use Rattle.model.specs.Net.{netOf}
 use Rattle.model.specs.Rules.{checkRules}
 use Rattle.model.specs.Entries.{checkAnswer}
 use Rattle.model.specs.declared.Answer.the-variants.{Done}
-use Rattle.tables.specs.Lent.{netOf}
 use Rattle.twistdory.proofs.Given.{refused-gives, accepted-gives}
 use Rattle.twistdory.proofs.check.Statement.{statement}
 use Rattle.twistdory.proofs.check.Tie as tie

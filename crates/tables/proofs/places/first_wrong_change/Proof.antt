@@ -8,8 +8,9 @@ use borrow.Author.Count.{below-more}
 use borrow.Author.Needs.{needs}
 use lib.ListN.{length}
 use Rattle.model.specs.Places.{any}
+use Rattle.model.specs.Net.{netOf}
+use Rattle.model.specs.Run.{changesOf}
 use Rattle.model.specs.Rules.{changeTests}
-use Rattle.tables.specs.Lent.{netOf, changesOf}
 use Rattle.tables.proofs.Finding.{NoneBelow, none-yet, first-at, first-none}
 use Rattle.tables.proofs.places.first_wrong_change.Statement.{statement}
 use Rattle.tables.proofs.places.first_wrong_change.Tie as tie

@@ -2,7 +2,7 @@
 use mathlib.Core.Path.{sym}
 use mathlib.Core.Bool.{or-false}
 use borrow.Author.Needs.{needs}
-use borrow.Author.Tests.{lt-ltb, le-ltb, eq-eqb, ne-eqb}
+use borrow.Author.Tests.{lt-ltb, le-ltb}
 use Rattle.model.specs.Rules.{changeTests}
 use Rattle.tables.proofs.places.wrong_change.Statement.{statement}
 use Rattle.tables.proofs.places.wrong_change.Tie as tie
@@ -20,26 +20,29 @@ returns : tie.Need-returns
 unfolding changeTests
 returns c = rw (← c .before .wide .ensures, le-ltb _ _ (c .if1 .taken))
 
-shared-slice-read-if2 : tie.Need-shared-slice-read-if2
-shared-slice-read-if2 c = search needs
+shared-slice-read-is-input : tie.Need-shared-slice-read-is-input
+shared-slice-read-is-input c = search needs
+
+is-input-requires : tie.Need-is-input-requires
+is-input-requires c κs = search needs
 
 returns-2 : tie.Need-returns-2
 unfolding changeTests
-returns-2 c = rw (← c .before .before .before .wide .ensures, lt-ltb _ _ (c .before .before .if1 .left), ne-eqb _ _ (c .if2 .taken))
+returns-2 c = rw (← c .before .before .before .before .wide .ensures, lt-ltb _ _ (c .before .before .before .if1 .left), ← c .before .is-input .ensures, c .if2 .taken)
 
 shared-slice-read-if3 : tie.Need-shared-slice-read-if3
 shared-slice-read-if3 c = search needs
 
 returns-3 : tie.Need-returns-3
 unfolding changeTests
-returns-3 c = rw (← c .before .before .before .before .before .wide .ensures, lt-ltb _ _ (c .before .before .before .before .if1 .left), eq-eqb _ _ (c .before .before .if2 .left), lt-ltb _ _ (c .if3 .taken))
+returns-3 c = rw (← c .before .before .before .before .before .before .wide .ensures, lt-ltb _ _ (c .before .before .before .before .before .if1 .left), ← c .before .before .before .is-input .ensures, c .before .before .if2 .left, lt-ltb _ _ (c .if3 .taken))
 
 named-before-requires : tie.Need-named-before-requires
 named-before-requires c κs = search needs
 
 returns-4 : tie.Need-returns-4
 unfolding changeTests
-returns-4 c = rw (c .named-before .ensures, ← c .before .before .before .before .before .before .wide .ensures, lt-ltb _ _ (c .before .before .before .before .before .if1 .left), eq-eqb _ _ (c .before .before .before .if2 .left), le-ltb _ _ (c .before .if3 .left)) (sym (or-false _))
+returns-4 c = rw (c .named-before .ensures, ← c .before .before .before .before .before .before .before .wide .ensures, lt-ltb _ _ (c .before .before .before .before .before .before .if1 .left), ← c .before .before .before .before .is-input .ensures, c .before .before .before .if2 .left, le-ltb _ _ (c .before .if3 .left)) (sym (or-false _))
 
 pub wrong-change-spec : {M : Type 1} → statement M
 wrong-change-spec =
@@ -49,7 +52,8 @@ wrong-change-spec =
     shared-slice-read-wide
     wide-requires
     returns
-    shared-slice-read-if2
+    shared-slice-read-is-input
+    is-input-requires
     returns-2
     shared-slice-read-if3
     returns-3

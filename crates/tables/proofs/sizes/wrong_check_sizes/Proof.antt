@@ -1,7 +1,7 @@
 -- `wrong_check_sizes` meets its contract: the nodes' sizes, then the transistors'. Assumes nothing.
 use borrow.Author.Needs.{needs}
+use Rattle.model.specs.Net.{netOf}
 use Rattle.model.specs.Rules.{nodeSizes, wireSizes, checkSizes}
-use Rattle.tables.specs.Lent.{netOf}
 use Rattle.tables.proofs.Fitting.{passed-first, failed-first}
 use Rattle.tables.proofs.sizes.wrong_check_sizes.Statement.{statement}
 use Rattle.tables.proofs.sizes.wrong_check_sizes.Tie as tie

@@ -1,7 +1,8 @@
 -- `wrong_run_sizes` meets its contract: the sizes that a step needs, then the changes'. Assumes nothing.
 use borrow.Author.Needs.{needs}
+use Rattle.model.specs.Net.{netOf}
+use Rattle.model.specs.Run.{changesOf}
 use Rattle.model.specs.Rules.{changeSizes, stepSizes, runSizes}
-use Rattle.tables.specs.Lent.{netOf, changesOf}
 use Rattle.tables.proofs.Fitting.{passed-first, failed-first}
 use Rattle.tables.proofs.sizes.wrong_run_sizes.Statement.{statement}
 use Rattle.tables.proofs.sizes.wrong_run_sizes.Tie as tie

@@ -3,8 +3,8 @@ use mathlib.Core.Path.{sym, _∙_}
 use mathlib.Core.Bool.{or-false}
 use mathlib.Core.List.{[], _++_}
 use borrow.Author.Needs.{needs}
+use Rattle.model.specs.Net.{netOf}
 use Rattle.model.specs.Rules.{wireSizes, workSizes, resetSizes, stepSizes}
-use Rattle.tables.specs.Lent.{netOf}
 use Rattle.tables.proofs.Fitting.{passed-first, failed-first, reset-sized, wires-sized}
 use Rattle.tables.proofs.sizes.wrong_step_sizes.Statement.{statement}
 use Rattle.tables.proofs.sizes.wrong_step_sizes.Tie as tie
