@@ -1,0 +1,114 @@
+-- `runs::settle` meets its contract: what is left of the steps is what is left of the definition. Assumes nothing.
+use Prim.Native.Nat.{_-_, _≤_}
+use native.Mathlib.Nat.{sub-zero}
+use native.Mathlib.Omega.{arith}
+use mathlib.Core.Path.{_≡_, refl, _∙_}
+use lib.ListN.{length}
+use borrow.Author.Needs.{needs}
+use Rattle.model.specs.Net.{step}
+use Rattle.model.specs.Run.{settle}
+use Rattle.stepper.specs.Step.{netOf}
+use Rattle.stepper.proofs.Least.{checked-with}
+use Rattle.runs.specs.Runs.{Spared}
+use Rattle.runs.proofs.Steps.{ends, stops, goes}
+use Rattle.runs.proofs.settle.Statement.{statement}
+use Rattle.runs.proofs.settle.Tie as tie
+
+abbrev Inv-loop : tie.InvT-loop
+Inv-loop kinds states₀ types gates sources drains work₀ limit count₀ states work count = (count ≤ limit) × (length states ≡ length states₀) × (length work ≡ length work₀) × (settle (step (netOf kinds types gates sources drains)) limit 0 states₀ ≡ settle (step (netOf kinds types gates sources drains)) (limit - count) count states) × Spared (netOf kinds types gates sources drains) work₀ work
+
+abbrev μ-loop : tie.MeasureT-loop
+μ-loop kinds states₀ types gates sources drains work₀ limit count₀ states work count = limit - count
+
+loop-holds : tie.Need-loop-holds Inv-loop μ-loop
+loop-holds c = (omega arith, refl, refl, rw sub-zero, λ k l. refl)
+
+evaluate-requires : tie.Need-evaluate-requires Inv-loop μ-loop
+evaluate-requires c κs =
+    let start = c .before .before .before .before .before .before .before .before .before .before in
+    checked-with (start .pre .0) (c .before .before .loop .inv .1) (c .before .before .loop .inv .2)
+
+differing-requires : tie.Need-differing-requires Inv-loop μ-loop
+differing-requires c κs =
+    let start = c .before .before .before .before .before .before .before .before .before .before .before .before .before .before .before in
+    let turn = c .before .before .before .before .before .before .before .loop in
+    let after-evaluate = c .before .before .before .before .evaluate in
+    omega (arith, start .pre .0 .states, start .pre .0 .few-nodes, start .pre .0 .fits, turn .inv .1, turn .inv .2, after-evaluate .kept)
+
+same-length : tie.Need-same-length Inv-loop μ-loop
+same-length c =
+    let turn = c .before .before .before .before .before .before .before .before .before .loop in
+    turn .inv .1
+
+same-length-2 : tie.Need-same-length-2 Inv-loop μ-loop
+same-length-2 c =
+    let after-evaluate = c .before .before .before .before .before .before .evaluate in
+    let turn = c .before .before .before .before .before .before .before .before .before .loop in
+    omega (arith, after-evaluate .kept, turn .inv .2)
+
+returns : tie.Need-returns Inv-loop μ-loop
+returns c =
+    let turn = c .before .before .before .before .before .before .before .before .before .loop in
+    let start = c .before .before .before .before .before .before .before .before .before .before .before .before .before .before .before .before .before in
+    let after-evaluate = c .before .before .before .before .before .before .evaluate in
+    ends (turn .inv .1 ∙ start .pre .0 .states) (after-evaluate .ensures) (c .before .differing .ensures) (start .args .limit) (turn .inv .3) (turn .inv .4) (c .if1 .taken)
+
+same-length-3 : tie.Need-same-length-3 Inv-loop μ-loop
+same-length-3 c =
+    let turn = c .before .before .before .before .before .before .before .before .before .before .loop in
+    turn .inv .1
+
+same-length-4 : tie.Need-same-length-4 Inv-loop μ-loop
+same-length-4 c =
+    let after-evaluate = c .before .before .before .before .before .before .before .evaluate in
+    let turn = c .before .before .before .before .before .before .before .before .before .before .loop in
+    omega (arith, after-evaluate .kept, turn .inv .2)
+
+returns-2 : tie.Need-returns-2 Inv-loop μ-loop
+returns-2 c =
+    let turn = c .before .before .before .before .before .before .before .before .before .before .loop in
+    let start = c .before .before .before .before .before .before .before .before .before .before .before .before .before .before .before .before .before .before in
+    let after-evaluate = c .before .before .before .before .before .before .before .evaluate in
+    stops (turn .inv .1 ∙ start .pre .0 .states) (after-evaluate .ensures) (c .before .before .differing .ensures) (start .args .limit) (turn .inv .3) (turn .inv .4) (c .before .if1 .left) (c .if2 .taken)
+
+store-requires : tie.Need-store-requires Inv-loop μ-loop
+store-requires c κs =
+    let start = c .before .before .before .before .before .before .before .before .before .before .before .before .before .before .before .before .before .before .before .before in
+    let turn = c .before .before .before .before .before .before .before .before .before .before .before .before .loop in
+    let after-evaluate = c .before .before .before .before .before .before .before .before .before .evaluate in
+    (omega (arith, start .pre .0 .states, start .pre .0 .fits, turn .inv .1, turn .inv .2, after-evaluate .kept), λ v l. after-evaluate .ensures .small v (omega (arith, l, start .pre .0 .states, turn .inv .1)))
+
+add-count : tie.Need-add-count Inv-loop μ-loop
+add-count c = search needs
+
+loop-less : tie.Need-loop-less Inv-loop μ-loop
+loop-less c = search needs
+
+loop-again : tie.Need-loop-again Inv-loop μ-loop
+loop-again c =
+    let turn = c .before .before .before .before .before .before .before .before .before .before .before .before .before .before .before .loop in
+    let after-evaluate = c .before .before .before .before .before .before .before .before .before .before .before .before .evaluate in
+    let start = c .before .before .before .before .before .before .before .before .before .before .before .before .before .before .before .before .before .before .before .before .before .before .before in
+    let after-differing = c .before .before .before .before .before .before .before .differing in
+    let after-if1 = c .before .before .before .before .before .before .if1 in
+    (omega arith, omega (arith, c .before .before .store .kept, turn .inv .1), omega (arith, after-evaluate .kept, turn .inv .2), goes (turn .inv .1 ∙ start .pre .0 .states) (after-evaluate .ensures) (after-differing .ensures) (start .args .limit) (turn .inv .3) (after-if1 .left) (omega arith) (c .before .before .store .ensures), λ k l. after-evaluate .ensures .after k l ∙ turn .inv .4 k l)
+
+pub settle-spec : {M : Type 1} → statement M
+settle-spec =
+    tie.close
+    (tie.spec
+    Inv-loop
+    μ-loop
+    loop-holds
+    evaluate-requires
+    differing-requires
+    same-length
+    same-length-2
+    returns
+    same-length-3
+    same-length-4
+    returns-2
+    store-requires
+    add-count
+    loop-less
+    loop-again)

@@ -1,0 +1,200 @@
+// Loops over steps: changes entered, steps until the state is settled, and from these the unit run and the ternary run, on tables
+// that were checked.
+ghost use mathlib.Core.Path.{_≡_};
+ghost use mathlib.Core.Bool.{cond};
+ghost use Prim.Native.Nat.{ℕ, _≤_, _<_};
+ghost use lib.ListN.{length};
+ghost use lib.Dec.{eqb};
+ghost use Rattle.model.specs.Bounds.{highestLimit};
+ghost use Rattle.model.specs.Net.{nodes, isInput, step};
+ghost use Rattle.model.specs.Run.{put, raised, settled, settle, limitOf, unitSteps, firstHalf, secondHalf};
+ghost use Rattle.model.specs.Entries.{cleared};
+ghost use Rattle.model.specs.Demands.{Enterable};
+ghost use Rattle.stepper.specs.Step.{netOf, Checked};
+ghost use Rattle.runs.specs.Runs.{changesOf, Named, Once, Spared, Stepped, Ended, Halved};
+
+// How steps ended: settled or not, and after how many.
+pub struct Ran {
+    pub ends: bool,
+    pub count: u32,
+}
+
+// The steps of the two halves of a ternary run.
+pub struct Halves {
+    pub first: u32,
+    pub second: u32,
+}
+
+// The named nodes take their new states.
+pub fn enter(states: &mut [u8], nodes: &[u16], news: &[u8])
+    requires { ⌜ Named (changesOf (now nodes) (now news)) (length (now states)) ⌝ }
+    ensures { λ r. ⌜ now (states .exit) ≡ put (now (states .entry)) (now (nodes .entry)) (now (news .entry)) ⌝ }
+{
+    let mut e = 0;
+    while e < nodes.len() {
+        let v = nodes[e] as usize;
+        states[v] = news[e];
+        e += 1;
+    }
+}
+
+// A state that is to change is X in between.
+fn raised_state(old: u8, new: u8) -> u8
+    ensures { λ r. ⌜ r ≡ cond (eqb old new) old 2 ⌝ }
+{
+    if old == new {
+        return old;
+    }
+    2
+}
+
+// The named nodes whose new state differs from their present one take X.
+pub fn raise_changed(states: &mut [u8], nodes: &[u16], news: &[u8])
+    requires { ⌜ Named (changesOf (now nodes) (now news)) (length (now states)) × Once (changesOf (now nodes) (now news)) ⌝ }
+    ensures { λ r. ⌜ now (states .exit) ≡ raised (now (states .entry)) (put (now (states .entry)) (now (nodes .entry)) (now (news .entry))) ⌝ }
+{
+    let mut e = 0;
+    while e < nodes.len() {
+        let v = nodes[e] as usize;
+        states[v] = raised_state(states[v], news[e]);
+        e += 1;
+    }
+}
+
+// The first `used` work cells become 0.
+pub fn clear(work: &mut [u16], used: usize)
+    requires { ⌜ used ≤ length (now work) ⌝ }
+    ensures { λ r. ⌜ now (work .exit) ≡ cleared used (now (work .entry)) ⌝ }
+{
+    stepper::start::zero(work, 0, used);
+}
+
+// One step; how many nodes differ after it.
+pub fn step_once(
+    kinds: &[u8],
+    states: &mut [u8],
+    types: &[u8],
+    gates: &[u16],
+    sources: &[u16],
+    drains: &[u16],
+    work: &mut [u16],
+) -> u32
+    requires { ⌜ Checked (netOf (now kinds) (now types) (now gates) (now sources) (now drains)) (now states) (length (now work)) ⌝ }
+    ensures { λ r. ⌜ Stepped (netOf (now (kinds .entry)) (now (types .entry)) (now (gates .entry)) (now (sources .entry)) (now (drains .entry))) (now (states .entry)) (now (work .entry)) r (now (states .exit)) (now (work .exit)) ⌝ }
+{
+    stepper::evaluate(kinds, states, types, gates, sources, drains, work);
+    let differ = stepper::differing(states, work);
+    stepper::store(states, work);
+    differ
+}
+
+// Whether a step would alter nothing.
+pub fn settled(
+    kinds: &[u8],
+    states: &[u8],
+    types: &[u8],
+    gates: &[u16],
+    sources: &[u16],
+    drains: &[u16],
+    work: &mut [u16],
+) -> bool
+    requires { ⌜ Checked (netOf (now kinds) (now types) (now gates) (now sources) (now drains)) (now states) (length (now work)) ⌝ }
+    ensures { λ r. ⌜ (r ≡ settled (step (netOf (now (kinds .entry)) (now (types .entry)) (now (gates .entry)) (now (sources .entry)) (now (drains .entry)))) (now (states .entry))) × Spared (netOf (now (kinds .entry)) (now (types .entry)) (now (gates .entry)) (now (sources .entry)) (now (drains .entry))) (now (work .entry)) (now (work .exit)) ⌝ }
+{
+    stepper::evaluate(kinds, states, types, gates, sources, drains, work);
+    stepper::differing(states, work) == 0
+}
+
+// Steps until settled, at most `limit` of them. The step that alters nothing is not counted.
+pub fn settle(
+    kinds: &[u8],
+    states: &mut [u8],
+    types: &[u8],
+    gates: &[u16],
+    sources: &[u16],
+    drains: &[u16],
+    work: &mut [u16],
+    limit: u32,
+) -> Ran
+    requires { ⌜ Checked (netOf (now kinds) (now types) (now gates) (now sources) (now drains)) (now states) (length (now work)) × (limit ≤ highestLimit) ⌝ }
+    ensures { λ r. ⌜ Ended (netOf (now (kinds .entry)) (now (types .entry)) (now (gates .entry)) (now (sources .entry)) (now (drains .entry))) (settle (step (netOf (now (kinds .entry)) (now (types .entry)) (now (gates .entry)) (now (sources .entry)) (now (drains .entry)))) limit 0 (now (states .entry))) (now (work .entry)) (r .ends) (r .count) (now (states .exit)) (now (work .exit)) ⌝ }
+{
+    let mut count = 0;
+    loop {
+        stepper::evaluate(kinds, states, types, gates, sources, drains, work);
+        if stepper::differing(states, work) == 0 {
+            return Ran { ends: true, count };
+        }
+        if count == limit {
+            return Ran { ends: false, count };
+        }
+        stepper::store(states, work);
+        count += 1;
+    }
+}
+
+// The limit in force: 0 stands for the default.
+pub fn limit_of(limit: u32) -> u32
+    ensures { λ r. ⌜ r ≡ limitOf limit ⌝ }
+{
+    if limit == 0 {
+        return 100;
+    }
+    limit
+}
+
+// A unit run: the changes are entered, then steps follow.
+pub fn unit_core(
+    kinds: &[u8],
+    states: &mut [u8],
+    types: &[u8],
+    gates: &[u16],
+    sources: &[u16],
+    drains: &[u16],
+    nodes: &[u16],
+    news: &[u8],
+    limit: u32,
+    work: &mut [u16],
+) -> Ran
+    requires { ⌜ Checked (netOf (now kinds) (now types) (now gates) (now sources) (now drains)) (now states) (length (now work)) × Named (changesOf (now nodes) (now news)) (length (now kinds)) × (limit ≤ highestLimit) ⌝ }
+    ensures { λ r. ⌜ Ended (netOf (now (kinds .entry)) (now (types .entry)) (now (gates .entry)) (now (sources .entry)) (now (drains .entry))) (unitSteps (step (netOf (now (kinds .entry)) (now (types .entry)) (now (gates .entry)) (now (sources .entry)) (now (drains .entry)))) (now (states .entry)) (changesOf (now (nodes .entry)) (now (news .entry))) limit) (now (work .entry)) (r .ends) (r .count) (now (states .exit)) (now (work .exit)) ⌝ }
+{
+    enter(states, nodes, news);
+    settle(
+        kinds,
+        states,
+        types,
+        gates,
+        sources,
+        drains,
+        work,
+        limit_of(limit),
+    )
+}
+
+// A ternary run: steps with the changed inputs at X, and from where these end, steps with them at their new states. As many steps
+// as there are nodes are enough for each half.
+pub fn ternary_core(
+    kinds: &[u8],
+    states: &mut [u8],
+    types: &[u8],
+    gates: &[u16],
+    sources: &[u16],
+    drains: &[u16],
+    nodes: &[u16],
+    news: &[u8],
+    work: &mut [u16],
+) -> Halves
+    requires { ⌜ Checked (netOf (now kinds) (now types) (now gates) (now sources) (now drains)) (now states) (length (now work)) × (length (now news) ≡ length (now nodes)) × Enterable (length (now kinds)) (isInput (netOf (now kinds) (now types) (now gates) (now sources) (now drains))) (changesOf (now nodes) (now news)) ⌝ }
+    ensures { λ r. ⌜ Halved (netOf (now (kinds .entry)) (now (types .entry)) (now (gates .entry)) (now (sources .entry)) (now (drains .entry))) (firstHalf (length (now (kinds .entry))) (step (netOf (now (kinds .entry)) (now (types .entry)) (now (gates .entry)) (now (sources .entry)) (now (drains .entry)))) (now (states .entry)) (changesOf (now (nodes .entry)) (now (news .entry)))) (secondHalf (length (now (kinds .entry))) (step (netOf (now (kinds .entry)) (now (types .entry)) (now (gates .entry)) (now (sources .entry)) (now (drains .entry)))) (now (states .entry)) (changesOf (now (nodes .entry)) (now (news .entry)))) (now (work .entry)) (r .first) (r .second) (now (states .exit)) (now (work .exit)) ⌝ }
+{
+    let n = kinds.len() as u32;
+    raise_changed(states, nodes, news);
+    let up = settle(kinds, states, types, gates, sources, drains, work, n);
+    enter(states, nodes, news);
+    let down = settle(kinds, states, types, gates, sources, drains, work, n);
+    Halves {
+        first: up.count,
+        second: down.count,
+    }
+}

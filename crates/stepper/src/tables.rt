@@ -1,0 +1,68 @@
+// The three tables of a step, one relaxation each: the definite strengths in work[0..n], and behind them what may keep each node
+// from 0 and from 1.
+ghost use mathlib.Core.Path.{_≡_};
+ghost use Prim.Native.Nat.{ℕ, _+_, _*_, _≤_, _<_};
+ghost use lib.ListN.{length};
+ghost use Rattle.stepper.specs.Step.{netOf, Checked};
+ghost use Rattle.stepper.specs.Start.{Definite, Against};
+
+// The definite strengths, in work[0..n]: over closed transistors, with no floor, for which zeros stand in work[3n..4n].
+pub fn definite(
+    kinds: &[u8],
+    states: &[u8],
+    types: &[u8],
+    gates: &[u16],
+    sources: &[u16],
+    drains: &[u16],
+    work: &mut [u16],
+)
+    requires { ⌜ Checked (netOf (now kinds) (now types) (now gates) (now sources) (now drains)) (now states) (length (now work)) ⌝ }
+    ensures { λ r. ⌜ Definite (netOf (now (kinds .entry)) (now (types .entry)) (now (gates .entry)) (now (sources .entry)) (now (drains .entry))) (now (states .entry)) (now (work .entry)) (now (work .exit)) ⌝ }
+{
+    let n = kinds.len();
+    crate::start::zero(work, 3 * n, n);
+    crate::start::start_definite(kinds, work);
+    crate::relax::relax(
+        kinds,
+        states,
+        types,
+        gates,
+        sources,
+        drains,
+        work,
+        0,
+        3 * n,
+        false,
+    );
+}
+
+// What may keep each node from the state b, in work[table..table + n]: over transistors that are not open, above the definite
+// strengths in work[0..n].
+pub fn possible(
+    kinds: &[u8],
+    states: &[u8],
+    types: &[u8],
+    gates: &[u16],
+    sources: &[u16],
+    drains: &[u16],
+    work: &mut [u16],
+    table: usize,
+    b: u8,
+)
+    requires { ⌜ Checked (netOf (now kinds) (now types) (now gates) (now sources) (now drains)) (now states) (length (now work)) × (length (now kinds) ≤ table) × (table + length (now kinds) ≤ 3 * length (now kinds)) ⌝ }
+    ensures { λ r. ⌜ Against (netOf (now (kinds .entry)) (now (types .entry)) (now (gates .entry)) (now (sources .entry)) (now (drains .entry))) (now (states .entry)) table b (now (work .entry)) (now (work .exit)) ⌝ }
+{
+    crate::start::start_against(kinds, states, work, table, b);
+    crate::relax::relax(
+        kinds,
+        states,
+        types,
+        gates,
+        sources,
+        drains,
+        work,
+        table,
+        0,
+        true,
+    );
+}
