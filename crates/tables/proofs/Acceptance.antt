@@ -1,0 +1,69 @@
+-- What a step and a run may rely on once what is lent is accepted. Assumes nothing.
+use Prim.Native.Nat.{ℕ, _≤_, _<_}
+use native.Mathlib.Omega.{arith}
+use mathlib.Core.Path.{_≡_, subst}
+use mathlib.Core.Bool.{false}
+use mathlib.Core.List.{List}
+use borrow.Author.Tests.{ltb-false, ltb-true, not-false}
+use Rattle.model.specs.Bounds.{highestState, highestLimit, highestKind, highestType}
+use Rattle.model.specs.Places.{any, at}
+use Rattle.model.specs.Net.{Net, nodes, isInput}
+use Rattle.model.specs.Run.{Changes}
+use Rattle.model.specs.Rules.{Rule, judge, kindRule, wireRule, stateRule, wireTests, stepSizes, stepRules, runRules, unitRules, ternaryRules, runSizes}
+use Rattle.model.specs.Demands.{Clean, Judged, Enterable}
+use Rattle.model.specs.declared.Verdict.{Verdict}
+use Rattle.model.specs.declared.Verdict.the-variants.{Accepted}
+use Rattle.model.proofs.Changes.{clean-changes}
+use Rattle.model.proofs.Judged.{judge-says, any-none}
+use Rattle.tables.specs.Lent.{Sized, SizedChanges, Sound, Fit}
+use Rattle.tables.proofs.Fitting.{step-sized, run-sized}
+
+-- no place breaks the rule
+abbrev Kept : Rule → Type 0
+Kept r = (q : ℕ) → q < r .places → r .breaks q ≡ false
+
+clean : (rs : List Rule) → judge rs ≡ Accepted → Clean rs
+clean rs e = subst (λ (v : Verdict). Judged rs v) e (judge-says rs)
+
+sound : (net : Net) → Sized net → Kept (kindRule (net .kinds)) → Kept (wireRule net) → Sound net
+unfolding wireTests
+sound net f k w =
+    record {
+      sized = f;
+      kind-is = λ v l. ltb-false highestKind (at (net .kinds) v) (k v l);
+      type-is = λ t l. ltb-false highestType (at (net .types) t) (any-none (wireTests net t) (w t l) 0);
+      gate-is = λ t l. ltb-true (at (net .gates) t) (nodes net) (not-false _ (any-none (wireTests net t) (w t l) 1));
+      source-is = λ t l. ltb-true (at (net .sources) t) (nodes net) (not-false _ (any-none (wireTests net t) (w t l) 2));
+      drain-is = λ t l. ltb-true (at (net .drains) t) (nodes net) (not-false _ (any-none (wireTests net t) (w t l) 3));
+    }
+
+fit : (net : Net) (s w : List ℕ) → any (stepSizes net s w) ≡ false → Kept (kindRule (net .kinds)) → Kept (wireRule net) → Kept (stateRule s) → Fit net s w
+fit net s w e k d h =
+    let f = step-sized net s w e in
+    record { sound = sound net (f .0) k d; states-level = f .1; state-is = λ v l. ltb-false highestState (at s v) (h v (omega arith)); room = f .2 }
+
+pub step-accepted : (net : Net) (s w : List ℕ) → judge (stepRules net s w) ≡ Accepted → Fit net s w
+unfolding stepRules
+step-accepted net s w e =
+    let c = clean (stepRules net s w) e in
+    fit net s w (c .0 0 (omega arith)) (c .1 .0) (c .1 .1 .0) (c .1 .1 .1 .0)
+
+-- what both runs test after SIZE and LIMIT
+run-accepted : (net : Net) (s : List ℕ) (ch : Changes) (w : List ℕ) → any (runSizes net s ch w) ≡ false → Clean (runRules net s ch) → Fit net s w × SizedChanges ch × Enterable (nodes net) (isInput net) ch
+unfolding runRules
+run-accepted net s ch w e c =
+    let f = run-sized net s ch w e in
+    (fit net s w (f .0) (c .0) (c .1 .0) (c .1 .1 .0), f .1, clean-changes net ch (c .1 .1 .1 .0))
+
+pub unit-accepted : (net : Net) (s : List ℕ) (ch : Changes) (limit : ℕ) (w : List ℕ) → judge (unitRules net s ch limit w) ≡ Accepted → Fit net s w × SizedChanges ch × Enterable (nodes net) (isInput net) ch × (limit ≤ highestLimit)
+unfolding unitRules
+unit-accepted net s ch limit w e =
+    let c = clean (unitRules net s ch limit w) e in
+    let f = run-accepted net s ch w (c .0 0 (omega arith)) (c .1 .1) in
+    (f .0, f .1, f .2, ltb-false highestLimit limit (c .1 .0 0 (omega arith)))
+
+pub ternary-accepted : (net : Net) (s : List ℕ) (ch : Changes) (w : List ℕ) → judge (ternaryRules net s ch w) ≡ Accepted → Fit net s w × SizedChanges ch × Enterable (nodes net) (isInput net) ch
+unfolding ternaryRules
+ternary-accepted net s ch w e =
+    let c = clean (ternaryRules net s ch w) e in
+    run-accepted net s ch w (c .0 0 (omega arith)) (c .1)

@@ -1,0 +1,34 @@
+-- `judge_check` meets its contract: SIZE where a size is wrong; else what the tables hold decides. Assumes nothing.
+use mathlib.Core.Path.{sym, _∙_}
+use mathlib.Core.List.{[], _∷_}
+use borrow.Author.Needs.{needs}
+use Rattle.model.specs.Net.{netOf}
+use Rattle.model.specs.Rules.{kindRule, wireRule, checkSizes, checkRules}
+use Rattle.tables.proofs.Fitting.{check-sized}
+use Rattle.tables.proofs.Judging.{size-broken, size-kept}
+use Rattle.tables.proofs.judge_check.Statement.{statement}
+use Rattle.tables.proofs.judge_check.Tie as tie
+
+wrong-check-sizes-requires : tie.Need-wrong-check-sizes-requires
+wrong-check-sizes-requires c κs = search needs
+
+returns : tie.Need-returns
+unfolding checkRules
+returns c =
+    let a = c .before .before .before .before .before .before .before .args in
+    size-broken (checkSizes (netOf (a .kinds .now) (a .types .now) (a .gates .now) (a .sources .now) (a .drains .now))) (kindRule (a .kinds .now) ∷ wireRule (netOf (a .kinds .now) (a .types .now) (a .gates .now) (a .sources .now) (a .drains .now)) ∷ []) _ (c .before .wrong-check-sizes .ensures) (c .if1 .taken)
+
+judge-tables-requires : tie.Need-judge-tables-requires
+judge-tables-requires c κs =
+    let a = c .before .before .before .before .before .before .before .args in
+    check-sized (netOf (a .kinds .now) (a .types .now) (a .gates .now) (a .sources .now) (a .drains .now)) (sym (c .before .wrong-check-sizes .ensures) ∙ c .if1 .left)
+
+returns-2 : tie.Need-returns-2
+unfolding checkRules
+returns-2 c =
+    let a = c .before .before .before .before .before .before .before .before .args in
+    size-kept (checkSizes (netOf (a .kinds .now) (a .types .now) (a .gates .now) (a .sources .now) (a .drains .now))) (kindRule (a .kinds .now) ∷ wireRule (netOf (a .kinds .now) (a .types .now) (a .gates .now) (a .sources .now) (a .drains .now)) ∷ []) _ (c .before .before .wrong-check-sizes .ensures) _ (c .before .if1 .left) (c .judge-tables .ensures)
+
+pub judge-check-spec : {M : Type 1} → statement M
+judge-check-spec =
+    tie.close (tie.spec wrong-check-sizes-requires returns judge-tables-requires returns-2)

@@ -1,0 +1,2 @@
+-- What is known of what is lent once it is accepted.
+pub mod Lent

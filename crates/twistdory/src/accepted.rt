@@ -1,0 +1,116 @@
+// What an entry does once all that it is lent is accepted: it runs, and clears the work cells that it used.
+use model::Answer;
+use runs::Ran;
+use runs::clear;
+use tables::sizes::cells_for;
+ghost use mathlib.Core.Path.{_≡_};
+ghost use mathlib.Core.Bool.{cond};
+ghost use Rattle.model.specs.Net.{netOf};
+ghost use Rattle.model.specs.Run.{changesOf};
+ghost use Rattle.model.specs.Rules.{judge, stepRules, unitRules, ternaryRules};
+ghost use Rattle.model.specs.Entries.{stepOutcome, unitOutcome, ternaryOutcome, Leaves};
+ghost use Rattle.model.specs.declared.Verdict.the-variants.{Accepted};
+
+// One step, and how many nodes differ after it.
+pub fn take_step(
+    kinds: &[u8],
+    states: &mut [u8],
+    types: &[u8],
+    gates: &[u16],
+    sources: &[u16],
+    drains: &[u16],
+    work: &mut [u16],
+) -> Answer
+    requires { ⌜ judge (stepRules (netOf (now kinds) (now types) (now gates) (now sources) (now drains)) (now states) (now work)) ≡ Accepted ⌝ }
+    ensures { λ r. ⌜ Leaves (stepOutcome (netOf (now (kinds .entry)) (now (types .entry)) (now (gates .entry)) (now (sources .entry)) (now (drains .entry))) (now (states .entry)) (now (work .entry))) r (now (states .exit)) (now (work .exit)) ⌝ }
+{
+    let used = cells_for(kinds.len(), types.len());
+    let first = runs::step_once(kinds, states, types, gates, sources, drains, work);
+    clear(work, used);
+    Answer::Done { first, second: 0 }
+}
+
+// The answer of a run that ended so, within the limit in force.
+fn ran_answer(ran: Ran, limit: u32) -> Answer
+    ensures { λ r. ⌜ r ≡ cond (ran .ends) (Answer.Done (ran .count) 0) (Answer.Oscillates limit) ⌝ }
+{
+    if ran.ends {
+        Answer::Done {
+            first: ran.count,
+            second: 0,
+        }
+    } else {
+        Answer::Oscillates(limit)
+    }
+}
+
+// The changes are entered, then steps follow, at most as many as the limit.
+pub fn run_unit(
+    kinds: &[u8],
+    states: &mut [u8],
+    types: &[u8],
+    gates: &[u16],
+    sources: &[u16],
+    drains: &[u16],
+    named: &[u16],
+    values: &[u8],
+    limit: u32,
+    work: &mut [u16],
+) -> Answer
+    requires { ⌜ judge (unitRules (netOf (now kinds) (now types) (now gates) (now sources) (now drains)) (now states) (changesOf (now named) (now values)) limit (now work)) ≡ Accepted ⌝ }
+    ensures { λ r. ⌜ Leaves (unitOutcome (netOf (now (kinds .entry)) (now (types .entry)) (now (gates .entry)) (now (sources .entry)) (now (drains .entry))) (now (states .entry)) (changesOf (now (named .entry)) (now (values .entry))) limit (now (work .entry))) r (now (states .exit)) (now (work .exit)) ⌝ }
+{
+    let used = cells_for(kinds.len(), types.len());
+    let ran = runs::unit_core(
+        kinds,
+        states,
+        types,
+        gates,
+        sources,
+        drains,
+        named,
+        values,
+        limit,
+        work,
+    );
+    clear(work, used);
+    ran_answer(ran, runs::limit_of(limit))
+}
+
+// From a settled start, steps with the changed inputs at X, then at their new states.
+pub fn run_ternary(
+    kinds: &[u8],
+    states: &mut [u8],
+    types: &[u8],
+    gates: &[u16],
+    sources: &[u16],
+    drains: &[u16],
+    named: &[u16],
+    values: &[u8],
+    work: &mut [u16],
+) -> Answer
+    requires { ⌜ judge (ternaryRules (netOf (now kinds) (now types) (now gates) (now sources) (now drains)) (now states) (changesOf (now named) (now values)) (now work)) ≡ Accepted ⌝ }
+    ensures { λ r. ⌜ Leaves (ternaryOutcome (netOf (now (kinds .entry)) (now (types .entry)) (now (gates .entry)) (now (sources .entry)) (now (drains .entry))) (now (states .entry)) (changesOf (now (named .entry)) (now (values .entry))) (now (work .entry))) r (now (states .exit)) (now (work .exit)) ⌝ }
+{
+    let used = cells_for(kinds.len(), types.len());
+    if !runs::settled(kinds, states, types, gates, sources, drains, work) {
+        clear(work, used);
+        return Answer::Start;
+    }
+    let halves = runs::ternary_core(
+        kinds,
+        states,
+        types,
+        gates,
+        sources,
+        drains,
+        named,
+        values,
+        work,
+    );
+    clear(work, used);
+    Answer::Done {
+        first: halves.first,
+        second: halves.second,
+    }
+}

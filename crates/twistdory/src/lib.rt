@@ -1,0 +1,166 @@
+// The simulator's entries. Each checks all that it is lent, answers with one of nine kinds of answer, and says in its contract what it
+// answers and what it leaves in each buffer that it may write, on every input.
+mod accepted;
+
+use model::Answer;
+use model::Verdict;
+ghost use mathlib.Core.Path.{_≡_};
+ghost use lib.ListN.{length};
+ghost use Rattle.model.specs.Places.{tab};
+ghost use Rattle.model.specs.Entries.{checkAnswer, resetOutcome, stepOutcome, unitOutcome, ternaryOutcome, Leaves};
+ghost use Rattle.model.specs.Net.{netOf};
+ghost use Rattle.model.specs.Run.{changesOf};
+
+// DONE, with counts of 0.
+fn done() -> Answer
+    ensures { λ r. ⌜ r ≡ Answer.Done 0 0 ⌝ }
+{
+    Answer::Done {
+        first: 0,
+        second: 0,
+    }
+}
+
+// Checks a network: its kinds and its transistor tables.
+pub fn check(kinds: &[u8], types: &[u8], gates: &[u16], sources: &[u16], drains: &[u16]) -> Answer
+    ensures { λ r. ⌜ r ≡ checkAnswer (netOf (now (kinds .entry)) (now (types .entry)) (now (gates .entry)) (now (sources .entry)) (now (drains .entry))) ⌝ }
+{
+    match tables::judge_check(kinds, types, gates, sources, drains) {
+        Verdict::Refused(a) => a,
+        Verdict::Accepted => done(),
+    }
+}
+
+// Every state becomes X.
+fn fill_x(states: &mut [u8])
+    ensures { λ _. ⌜ now (states .exit) ≡ tab (length (now (states .entry))) (λ v. 2) ⌝ }
+{
+    let mut v = 0;
+    while v < states.len() {
+        states[v] = 2;
+        v += 1;
+    }
+}
+
+// Resets the states of a network: every state becomes X, whatever it was.
+pub fn reset(kinds: &[u8], states: &mut [u8]) -> Answer
+    ensures answers { λ r. ⌜ r ≡ resetOutcome (now (kinds .entry)) (now (states .entry)) .answer ⌝ }
+    ensures leaves { λ r. ⌜ now (states .exit) ≡ resetOutcome (now (kinds .entry)) (now (states .entry)) .states ⌝ }
+{
+    match tables::judge_reset(kinds, states) {
+        Verdict::Refused(a) => a,
+        Verdict::Accepted => {
+            fill_x(states);
+            done()
+        }
+    }
+}
+
+// Takes one unit step, and answers with the number of nodes whose state differs after it.
+pub fn step(
+    kinds: &[u8],
+    states: &mut [u8],
+    types: &[u8],
+    gates: &[u16],
+    sources: &[u16],
+    drains: &[u16],
+    work: &mut [u16],
+) -> Answer
+    ensures { λ r. ⌜ Leaves (stepOutcome (netOf (now (kinds .entry)) (now (types .entry)) (now (gates .entry)) (now (sources .entry)) (now (drains .entry))) (now (states .entry)) (now (work .entry))) r (now (states .exit)) (now (work .exit)) ⌝ }
+{
+    match tables::judge_step(kinds, states, types, gates, sources, drains, work) {
+        Verdict::Refused(a) => a,
+        Verdict::Accepted => accepted::take_step(
+            kinds,
+            states,
+            types,
+            gates,
+            sources,
+            drains,
+            work,
+        ),
+    }
+}
+
+// Makes a unit run: the changes are entered, then steps follow until nothing moves, or to the limit. The limit 0 stands for the default.
+pub fn unit_run(
+    kinds: &[u8],
+    states: &mut [u8],
+    types: &[u8],
+    gates: &[u16],
+    sources: &[u16],
+    drains: &[u16],
+    named: &[u16],
+    values: &[u8],
+    limit: u32,
+    work: &mut [u16],
+) -> Answer
+    ensures { λ r. ⌜ Leaves (unitOutcome (netOf (now (kinds .entry)) (now (types .entry)) (now (gates .entry)) (now (sources .entry)) (now (drains .entry))) (now (states .entry)) (changesOf (now (named .entry)) (now (values .entry))) limit (now (work .entry))) r (now (states .exit)) (now (work .exit)) ⌝ }
+{
+    match tables::judge_unit(
+        kinds,
+        states,
+        types,
+        gates,
+        sources,
+        drains,
+        named,
+        values,
+        limit,
+        work,
+    ) {
+        Verdict::Refused(a) => a,
+        Verdict::Accepted => accepted::run_unit(
+            kinds,
+            states,
+            types,
+            gates,
+            sources,
+            drains,
+            named,
+            values,
+            limit,
+            work,
+        ),
+    }
+}
+
+// Makes a ternary run from a settled start: changed inputs at X until nothing moves, then at their new states until nothing moves.
+pub fn ternary_run(
+    kinds: &[u8],
+    states: &mut [u8],
+    types: &[u8],
+    gates: &[u16],
+    sources: &[u16],
+    drains: &[u16],
+    named: &[u16],
+    values: &[u8],
+    work: &mut [u16],
+) -> Answer
+    ensures { λ r. ⌜ Leaves (ternaryOutcome (netOf (now (kinds .entry)) (now (types .entry)) (now (gates .entry)) (now (sources .entry)) (now (drains .entry))) (now (states .entry)) (changesOf (now (named .entry)) (now (values .entry))) (now (work .entry))) r (now (states .exit)) (now (work .exit)) ⌝ }
+{
+    match tables::judge_ternary(
+        kinds,
+        states,
+        types,
+        gates,
+        sources,
+        drains,
+        named,
+        values,
+        work,
+    ) {
+        Verdict::Refused(a) => a,
+        Verdict::Accepted => accepted::run_ternary(
+            kinds,
+            states,
+            types,
+            gates,
+            sources,
+            drains,
+            named,
+            values,
+            work,
+        ),
+    }
+}
