@@ -2,3 +2,4 @@
 mod Given
 mod Running
 pub mod Determined
+pub mod Promises

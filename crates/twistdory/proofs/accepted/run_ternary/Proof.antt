@@ -31,7 +31,7 @@ same-length-2 c = search needs
 returns : tie.Need-returns
 returns c =
     let kept = c .before .before .before .before .before .before .before .settled .kept in
-    start-leaves _ _ _ _ _ (omega arith) _ (c .before .before .before .before .before .before .before .before .before .before .cells-for .ensures) (c .before .before .clear .ensures) _ (c .before .before .before .before .before .before .before .before .before .before .before .before .before .before .before .before .before .before .before .before .pre) (sym (c .before .before .before .before .before .before .before .settled .ensures .0) ∙ not-true _ (c .before .before .before .before .if1 .taken)) (c .before .before .before .before .before .before .before .settled .ensures .1)
+    start-leaves _ _ _ _ _ (omega arith) _ (c .before .before .before .before .before .before .before .before .before .before .cells-for .ensures) (c .before .before .clear .ensures) _ (c .before .before .before .before .before .before .before .before .before .before .before .before .before .before .before .before .before .before .before .before .pre) (sym (c .before .before .before .before .before .before .before .settled .ensures .tells) ∙ not-true _ (c .before .before .before .before .if1 .taken)) (c .before .before .before .before .before .before .before .settled .ensures .spared)
 
 ternary-core-requires : tie.Need-ternary-core-requires
 ternary-core-requires c κs =
@@ -55,7 +55,7 @@ returns-2 : tie.Need-returns-2
 returns-2 c =
     let kept = c .before .before .before .before .before .before .before .before .ternary-core .kept in
     let before = c .before .before .before .before .before .before .before .before .before .before .before .before .before .before .settled .kept in
-    ternary-leaves _ _ _ _ _ (omega arith) _ (c .before .before .before .before .before .before .before .before .before .before .before .before .before .before .before .before .before .cells-for .ensures) (c .before .before .clear2 .ensures) _ (c .before .before .before .before .before .before .before .before .before .before .before .before .before .before .before .before .before .before .before .before .before .before .before .before .before .before .before .pre) (sym (c .before .before .before .before .before .before .before .before .before .before .before .before .before .before .settled .ensures .0) ∙ not-false _ (c .before .before .before .before .before .before .before .before .before .before .before .if1 .left)) _ (c .before .before .before .before .before .before .before .before .before .before .before .before .before .before .settled .ensures .1) _ _ _ (c .before .before .before .before .before .before .before .before .ternary-core .ensures)
+    ternary-leaves _ _ _ _ _ (omega arith) _ (c .before .before .before .before .before .before .before .before .before .before .before .before .before .before .before .before .before .cells-for .ensures) (c .before .before .clear2 .ensures) _ (c .before .before .before .before .before .before .before .before .before .before .before .before .before .before .before .before .before .before .before .before .before .before .before .before .before .before .before .pre) (sym (c .before .before .before .before .before .before .before .before .before .before .before .before .before .before .settled .ensures .tells) ∙ not-false _ (c .before .before .before .before .before .before .before .before .before .before .before .if1 .left)) _ (c .before .before .before .before .before .before .before .before .before .before .before .before .before .before .settled .ensures .spared) _ _ _ (c .before .before .before .before .before .before .before .before .ternary-core .ensures)
 
 pub run-ternary-spec : {M : Type 1} → statement M
 run-ternary-spec =
