@@ -1,23 +1,33 @@
-# make run    the main job: the bench set, from the definitions
+# make run    the main job: the bench set K1 to K14 through the library's entries, a line each
 # make test   everything that the gate checks; the last line is rt's 'N passed, 0 failed'
-.PHONY: run test layout outside
+#
+# make lib, examples, outside, soak, faults, bench: the C library, in mk/door.mk
+.PHONY: run test toolchain layout choices proofs
 
 run: toolchain
-	@rt check model
-	@echo "K1 to K14 hold of the definitions, as one claim: 'bench' in crates/model/specs/Bench.antt"
+	@mkdir -p build && { rt check cases >build/run.log 2>&1 || { tail -n 20 build/run.log; exit 1; }; }
+	@sh mk/run.sh cases
 
-# What takes seconds comes first; the proofs come last, from nothing.
-test: toolchain layout outside
-	@rt ci
+# From nothing: layout, the outside program in Python, all proofs and programs, then the C library made of what was proved.
+# At the end stands once more the last line of rt ci.
+test: toolchain layout choices proofs
+	@$(MAKE) -s examples outside
+	@tail -n 1 build/proofs.log
 
 layout:
 	@rt fmt --check && echo "layout: every file is as the formatter lays it out"
 
 # The program that tries every choice, against the bench set and the samples; and the faults that it must notice.
-outside:
-	@outside/check.sh
-	@outside/check.sh --self-test
+choices:
+	@outside/choices/check.sh
+	@outside/choices/check.sh --self-test
 
-.PHONY: toolchain
+proofs:
+	@mkdir -p build && rm -f build/libtwistdory.a
+	@{ rt ci; echo $$? >build/proofs.status; } 2>&1 | tee build/proofs.log
+	@exit $$(cat build/proofs.status)
+
 toolchain:
 	@command -v rt >/dev/null || { echo "Rattle's command rt is missing: put its kit's bin/ on the PATH"; exit 1; }
+
+include mk/door.mk

@@ -1,3 +1,4 @@
+-- `name_nodes` ends, and writes within the table. Assumes nothing.
 use Prim.Native.Nat.{_≤_, _-_}
 use mathlib.Core.Path.{_≡_, _∙_}
 use lib.ListN.{length, length-set}
@@ -5,9 +6,6 @@ use borrow.Author.Needs.{needs}
 use native.Mathlib.Omega.{arith}
 use Rattle.bounds.proofs.name_nodes.Statement.{statement}
 use Rattle.bounds.proofs.name_nodes.Tie as tie
-use Rattle.bounds.proofs.name_nodes.Reads as reads
-use Rattle.bounds.proofs.name_nodes.Lts as lts
-use Rattle.bounds.proofs.node.Reads as node-reads
 
 abbrev Inv-loop : tie.InvT-loop
 Inv-loop table₀ after i₀ table i = (i ≤ length table) × (length table ≡ length table₀)
@@ -15,39 +13,30 @@ Inv-loop table₀ after i₀ table i = (i ≤ length table) × (length table ≡
 abbrev μ-loop : tie.MeasureT-loop
 μ-loop table₀ after i₀ table i = length table₀ - i
 
--- src/main.rt:210:5
 loop-holds : tie.Need-loop-holds Inv-loop μ-loop
 loop-holds c = search needs
 
--- src/main.rt:211:20
 node-requires : tie.Need-node-requires Inv-loop μ-loop
 node-requires c κs = search needs
 
--- src/main.rt:211:9
 mul-table : tie.Need-mul-table Inv-loop μ-loop
 mul-table c = search needs
 
--- src/main.rt:211:9
 slice-write-table : tie.Need-slice-write-table Inv-loop μ-loop
 slice-write-table c = search needs
 
--- src/main.rt:212:9
 add-i : tie.Need-add-i Inv-loop μ-loop
 add-i c = search needs
 
--- src/main.rt:210:5
 loop-less : tie.Need-loop-less Inv-loop μ-loop
 loop-less c = search needs
 
--- src/main.rt:210:5
 loop-again : tie.Need-loop-again Inv-loop μ-loop
 loop-again c = (omega (arith, length-set (c .before .before .loop .table) (c .before .before .loop .i) (c .node .result)), length-set (c .before .before .loop .table) (c .before .before .loop .i) (c .node .result) ∙ c .before .before .loop .inv .1)
 
--- src/main.rt:208:1
 same-length : tie.Need-same-length Inv-loop μ-loop
 same-length c = search needs
 
--- src/main.rt:208:1
 returns : tie.Need-returns Inv-loop μ-loop
 returns c = search needs
 

@@ -1,18 +1,12 @@
+-- `row_of` meets its contract: the row of an answer is its four numbers. Assumes nothing.
 use mathlib.Core.Path.{_≡_, refl, sym}
 use mathlib.Core.List.{List, [], _∷_}
 use Rattle.model.specs.Answer.{row, number, place, firstCount, secondCount}
 use Rattle.model.specs.declared.Answer.{Answer}
 use Rattle.model.specs.declared.Answer.the-variants.{Done, Size, Limit, Kind, Wire, State, Change, Start, Oscillates}
-use native.Mathlib.Omega.{arith}
 use borrow.Author.Needs.{needs}
 use Rattle.door.proofs.row_of.Statement.{statement}
 use Rattle.door.proofs.row_of.Tie as tie
-use Rattle.door.proofs.row_of.Reads as reads
-use Rattle.door.proofs.row_of.Lts as lts
-use Rattle.model.proofs.first_count_of.Reads as first-count-of-reads
-use Rattle.model.proofs.number_of.Reads as number-of-reads
-use Rattle.model.proofs.place_of.Reads as place-of-reads
-use Rattle.model.proofs.second_count_of.Reads as second-count-of-reads
 
 row-parts : (a : Answer) → row a ≡ number a ∷ place a ∷ firstCount a ∷ secondCount a ∷ []
 row-parts (Done k l) = refl
@@ -25,23 +19,18 @@ row-parts (Change p) = refl
 row-parts Start = refl
 row-parts (Oscillates k) = refl
 
--- src/lib.rt:11:9
 number-of-requires : tie.Need-number-of-requires
 number-of-requires c κs = search needs
 
--- src/lib.rt:12:9
 place-of-requires : tie.Need-place-of-requires
 place-of-requires c κs = search needs
 
--- src/lib.rt:13:9
 first-count-of-requires : tie.Need-first-count-of-requires
 first-count-of-requires c κs = search needs
 
--- src/lib.rt:14:9
 second-count-of-requires : tie.Need-second-count-of-requires
 second-count-of-requires c κs = search needs
 
--- src/lib.rt:7:1
 returns : tie.Need-returns
 returns c = rw (c .second-count-of .ensures, c .before .first-count-of .ensures, c .before .before .place-of .ensures, c .before .before .before .number-of .ensures) (sym (row-parts (c .before .before .before .before .args .a)))
 

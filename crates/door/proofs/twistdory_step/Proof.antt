@@ -1,31 +1,26 @@
-use native.Mathlib.Omega.{arith}
+-- `twistdory_step` meets its contract, by that of `step`. Assumes nothing.
+use mathlib.Core.Path.{_∙_, ap}
+use Rattle.model.specs.Answer.{row}
 use borrow.Author.Needs.{needs}
 use Rattle.door.proofs.twistdory_step.Statement.{statement}
 use Rattle.door.proofs.twistdory_step.Tie as tie
-use Rattle.door.proofs.twistdory_step.Reads as reads
-use Rattle.door.proofs.twistdory_step.Lts as lts
-use Rattle.door.proofs.row_of.Reads as row-of-reads
-use Rattle.twistdory.proofs.step.Reads as step-reads
 
--- src/lib.rt:58:22
 step-requires : tie.Need-step-requires
 step-requires c κs = search needs
 
--- src/lib.rt:58:15
 row-of-requires : tie.Need-row-of-requires
 row-of-requires c κs = search needs
 
--- src/lib.rt:45:1
 same-length : tie.Need-same-length
 same-length c = search needs
 
--- src/lib.rt:45:1
 same-length-2 : tie.Need-same-length-2
 same-length-2 c = search needs
 
--- src/lib.rt:45:1
 returns : tie.Need-returns
-returns c = search needs
+returns c =
+    let e = c .before .before .before .before .before .step .ensures in
+    record { numbers = c .row-of .ensures ∙ ap row (e .answers); states-left = e .states-left; work-left = e .work-left }
 
 pub twistdory-step-spec : {M : Type 1} → statement M
 twistdory-step-spec =

@@ -1,31 +1,26 @@
-use native.Mathlib.Omega.{arith}
+-- `twistdory_unit_run` meets its contract, by that of `unit_run`. Assumes nothing.
+use mathlib.Core.Path.{_∙_, ap}
+use Rattle.model.specs.Answer.{row}
 use borrow.Author.Needs.{needs}
 use Rattle.door.proofs.twistdory_unit_run.Statement.{statement}
 use Rattle.door.proofs.twistdory_unit_run.Tie as tie
-use Rattle.door.proofs.twistdory_unit_run.Reads as reads
-use Rattle.door.proofs.twistdory_unit_run.Lts as lts
-use Rattle.door.proofs.row_of.Reads as row-of-reads
-use Rattle.twistdory.proofs.unit_run.Reads as unit-run-reads
 
--- src/lib.rt:77:22
 unit-run-requires : tie.Need-unit-run-requires
 unit-run-requires c κs = search needs
 
--- src/lib.rt:77:15
 row-of-requires : tie.Need-row-of-requires
 row-of-requires c κs = search needs
 
--- src/lib.rt:61:1
 same-length : tie.Need-same-length
 same-length c = search needs
 
--- src/lib.rt:61:1
 same-length-2 : tie.Need-same-length-2
 same-length-2 c = search needs
 
--- src/lib.rt:61:1
 returns : tie.Need-returns
-returns c = search needs
+returns c =
+    let e = c .before .before .before .before .before .unit-run .ensures in
+    record { numbers = c .row-of .ensures ∙ ap row (e .answers); states-left = e .states-left; work-left = e .work-left }
 
 pub twistdory-unit-run-spec : {M : Type 1} → statement M
 twistdory-unit-run-spec =
