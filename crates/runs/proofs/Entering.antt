@@ -11,11 +11,11 @@ use lib.Seq.{ext-getD, take-suc, take-all, getD-take, getD-set-same, getD-set-ot
 use lib.Dec.{eqb}
 use borrow.Author.Tests.{eqb-true, eq-eqb, not-false}
 use Rattle.model.specs.Places.{tab, some, at}
-use Rattle.model.specs.Run.{Changes, put, changed, raised, lowered}
+use Rattle.model.specs.Run.{Changes, put, changed, raised, lowered, changesOf}
 use Rattle.model.proofs.Places.{length-tab, getD-tab, some-at, some-of}
 use Rattle.model.proofs.Changes.{length-put, put-unnamed, put-named}
-use Rattle.stepper.proofs.Cells.{Stored, here, else, stored}
-use Rattle.runs.specs.Runs.{changesOf, Named, Once}
+use Rattle.stepper.proofs.Stores.{Stored, here, else, stored}
+use Rattle.runs.specs.Runs.{Named, Once}
 
 pub named-at : {ch : Changes} {n n′ : ℕ} → Named ch n → n′ ≡ n → Named ch n′
 named-at N e = rw e N

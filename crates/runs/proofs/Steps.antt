@@ -70,7 +70,7 @@ module _ (f : List ℕ → List ℕ) where
         go true h = refl
         go false h = h ∙ st .keeps s v l i
 
-ended-as : {net : Net} {x : Ran} {w w′ s : List ℕ} {b : Bool} {k : ℕ} → x ≡ record { ends = b; count = k; states = s } → Spared net w w′ → Ended net x w b k s w′
+ended-as : {net : Net} {run : (List ℕ → List ℕ) → Ran} {w w′ s : List ℕ} {b : Bool} {k : ℕ} → run (step net) ≡ record { ends = b; count = k; states = s } → Spared net w w′ → Ended net run w b k s w′
 ended-as e r = record { ends = sym (ap (λ (x : Ran). x .ends) e); count = sym (ap (λ (x : Ran). x .count) e); states = sym (ap (λ (x : Ran). x .states) e); spared = r }
 
 -- one evaluated step, of which k nodes differ, in steps of which `count` were taken and `limit` are allowed
@@ -78,14 +78,17 @@ module _ {net : Net} {s w w′ : List ℕ} {k : ℕ} (long : length s ≡ nodes 
   pub settled-test : eqb k 0 ≡ settled (step net) s
   settled-test = ap (λ (n : ℕ). eqb n 0) (c ∙ evaluated-count long E) ∙ same-count s (step net s) (stepper net .sized s ∙ sym long)
 
-  module _ {x : Ran} {count : ℕ} (limit : ℕ) (i : x ≡ settle (step net) (limit - count) count s) where
-    pub ends : {w₀ : List ℕ} → Spared net w₀ w → k ≡ 0 → Ended net x w₀ true count s w′
-    ends r z = ended-as (i ∙ settle-ends (step net) (limit - count) count s (sym settled-test ∙ eq-eqb k 0 z)) (λ j l. E .after j l ∙ r j l)
+  pub ends : {run : (List ℕ → List ℕ) → Ran} {w₀ : List ℕ} {count : ℕ} (limit : ℕ) → run (step net) ≡ settle (step net) (limit - count) count s → Spared net w₀ w → k ≡ 0
+      → Ended net run w₀ true count s w′
+  ends {count = count} limit i r z = ended-as (i ∙ settle-ends (step net) (limit - count) count s (sym settled-test ∙ eq-eqb k 0 z)) (λ j l. E .after j l ∙ r j l)
 
-    pub stops : {w₀ : List ℕ} → Spared net w₀ w → (k ≡ 0 → ⊥) → count ≡ limit → Ended net x w₀ false count s w′
-    stops r z e = ended-as (i ∙ settle-stops (step net) (limit - count) count s (omega arith) (sym settled-test ∙ ne-eqb k 0 z)) (λ j l. E .after j l ∙ r j l)
+  pub stops : {run : (List ℕ → List ℕ) → Ran} {w₀ : List ℕ} {count : ℕ} (limit : ℕ) → run (step net) ≡ settle (step net) (limit - count) count s → Spared net w₀ w → (k ≡ 0 → ⊥)
+      → count ≡ limit → Ended net run w₀ false count s w′
+  stops {count = count} limit i r z e =
+      ended-as (i ∙ settle-stops (step net) (limit - count) count s (omega arith) (sym settled-test ∙ ne-eqb k 0 z)) (λ j l. E .after j l ∙ r j l)
 
-    pub goes : (k ≡ 0 → ⊥) → count < limit → {s′ : List ℕ} → s′ ≡ tab (length s) (at w′) → x ≡ settle (step net) (limit - (count + 1)) (count + 1) s′
-    goes z e q =
-        i ∙ settle-goes (step net) (limit - count) (limit - (count + 1)) count s (omega arith) (sym settled-test ∙ ne-eqb k 0 z)
-        ∙ ap (settle (step net) (limit - (count + 1)) (count + 1)) (sym (q ∙ evaluated-states long E))
+  pub goes : {x : Ran} {count : ℕ} (limit : ℕ) → x ≡ settle (step net) (limit - count) count s → (k ≡ 0 → ⊥) → count < limit → {s′ : List ℕ} → s′ ≡ tab (length s) (at w′)
+      → x ≡ settle (step net) (limit - (count + 1)) (count + 1) s′
+  goes {count = count} limit i z e q =
+      i ∙ settle-goes (step net) (limit - count) (limit - (count + 1)) count s (omega arith) (sym settled-test ∙ ne-eqb k 0 z)
+      ∙ ap (settle (step net) (limit - (count + 1)) (count + 1)) (sym (q ∙ evaluated-states long E))

@@ -8,10 +8,10 @@ use lib.ListN.{length}
 use Rattle.model.specs.Bounds.{highestLimit}
 use Rattle.model.specs.Places.{at}
 use Rattle.model.specs.Net.{Net, nodes, isInput, step}
-use Rattle.model.specs.Run.{Ran, put, raised, lowered, settle, limitOf, unitSteps, firstHalf, secondHalf}
+use Rattle.model.specs.Run.{Ran, put, raised, lowered, settle, limitOf, unitSteps, firstHalf, secondHalf, changesOf}
 use Rattle.model.specs.Demands.{Enterable}
 use Rattle.model.proofs.RuleOne.{stepper}
-use Rattle.runs.specs.Runs.{changesOf, Named, Ended, Halved}
+use Rattle.runs.specs.Runs.{Named, Ended, Halved}
 use Rattle.runs.proofs.Steps.{settle-keeps}
 use Rattle.runs.proofs.Entering.{lowering}
 
@@ -19,22 +19,19 @@ pub limit-high : (limit : ℕ) → limit ≤ highestLimit → limitOf limit ≤ 
 limit-high zero h = omega arith
 limit-high (suc limit) h = h
 
-ended-at : {net : Net} {x y : Ran} {w w′ s : List ℕ} {b : Bool} {k : ℕ} → x ≡ y → Ended net x w b k s w′ → Ended net y w b k s w′
-ended-at e h = rw e at h
-
 -- steps within the limit in force, from the states with the changes entered
-pub unit-ended : {net : Net} {s₁ s′ w w′ : List ℕ} {b : Bool} {k r : ℕ} (s ps vs : List ℕ) (limit : ℕ) → s₁ ≡ put s ps vs → r ≡ limitOf limit → Ended net (settle (step net) r 0 s₁) w b k s′ w′
-    → Ended net (unitSteps (step net) s (changesOf ps vs) limit) w b k s′ w′
+pub unit-ended : {net : Net} {s₁ s′ w w′ : List ℕ} {b : Bool} {k r : ℕ} (s ps vs : List ℕ) (limit : ℕ) → s₁ ≡ put s ps vs → r ≡ limitOf limit → Ended net (λ f. settle f r 0 s₁) w b k s′ w′
+    → Ended net (λ f. unitSteps f s (changesOf ps vs) limit) w b k s′ w′
 unfolding unitSteps
-unit-ended s ps vs limit p q h = ended-at (rw (p, q)) h
+unit-ended s ps vs limit p q h = rw (p, q) at h
 
 pub named-of : {ps vs : List ℕ} {n n′ : ℕ} {input : ℕ → Bool} → length vs ≡ length ps → Enterable n input (changesOf ps vs) → n′ ≡ n → Named (changesOf ps vs) n′
 named-of q E e = record { lengths = q; below = λ i l. rw e (E .below i l) }
 
 -- steps from the raised states to a, and from there, with the changes entered, to z
 module _ {net : Net} {a₀ a a₁ z w₀ w₁ w₂ : List ℕ} {b c : Bool} {k l : ℕ} (s ps vs : List ℕ) (q : length vs ≡ length ps) (E : Enterable (nodes net) (isInput net) (changesOf ps vs))
-    (sized : length s ≡ nodes net) (long : length a ≡ length s) (p₀ : a₀ ≡ raised s (put s ps vs)) (h₁ : Ended net (settle (step net) (nodes net) 0 a₀) w₀ b k a w₁)
-    (p₁ : a₁ ≡ put a ps vs) (h₂ : Ended net (settle (step net) (nodes net) 0 a₁) w₁ c l z w₂) where
+    (sized : length s ≡ nodes net) (long : length a ≡ length s) (p₀ : a₀ ≡ raised s (put s ps vs)) (h₁ : Ended net (λ f. settle f (nodes net) 0 a₀) w₀ b k a w₁)
+    (p₁ : a₁ ≡ put a ps vs) (h₂ : Ended net (λ f. settle f (nodes net) 0 a₁) w₁ c l z w₂) where
   from : a ≡ settle (step net) (nodes net) 0 (raised s (put s ps vs)) .states
   from = h₁ .states ∙ ap (λ (x : List ℕ). settle (step net) (nodes net) 0 x .states) p₀
 
@@ -43,7 +40,7 @@ module _ {net : Net} {a₀ a a₁ z w₀ w₁ w₂ : List ℕ} {b c : Bool} {k l
       ap (λ (x : List ℕ). at x (at ps e)) from
       ∙ settle-keeps (step net) (nodes net) (isInput net) (stepper net) (at ps e) (E .below e m) (E .inputs e m) (nodes net) 0 (raised s (put s ps vs))
 
-  pub halved : Halved net (firstHalf (nodes net) (step net) s (changesOf ps vs)) (secondHalf (nodes net) (step net) s (changesOf ps vs)) w₀ k l z w₂
+  pub halved : Halved net s (changesOf ps vs) w₀ k l z w₂
   unfolding firstHalf secondHalf
   halved =
       let two : settle (step net) (nodes net) 0 a₁ ≡ secondHalf (nodes net) (step net) s (changesOf ps vs) =

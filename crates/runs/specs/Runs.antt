@@ -5,14 +5,10 @@ use mathlib.Core.Bool.{Bool}
 use mathlib.Core.List.{List}
 use lib.ListN.{length}
 use Rattle.model.specs.Places.{at}
-use Rattle.model.specs.Net.{Net, step}
-use Rattle.model.specs.Run.{Changes, Ran}
+use Rattle.model.specs.Net.{Net, nodes, step}
+use Rattle.model.specs.Run.{Changes, Ran, settled, firstHalf, secondHalf}
 use Rattle.model.specs.Rules.{cells}
 use Rattle.model.specs.Entries.{altered}
-
--- the lent lists as a change list
-abbrev pub changesOf : List ℕ → List ℕ → Changes
-changesOf nodes news = record { places = nodes; values = news }
 
 -- a state for each entry, and entries that name nodes below n
 pub record Named (ch : Changes) (n : ℕ) : Type 0 where
@@ -33,16 +29,21 @@ pub record Stepped (net : Net) (s w : List ℕ) (k : ℕ) (s′ w′ : List ℕ)
   pub states : s′ ≡ step net s
   pub spared : Spared net w w′
 
--- steps ended as x says: settled or not, after how many, in which states
-pub record Ended (net : Net) (x : Ran) (w : List ℕ) (b : Bool) (k : ℕ) (s′ w′ : List ℕ) : Type 0 where
-  pub ends : b ≡ x .ends
-  pub count : k ≡ x .count
-  pub states : s′ ≡ x .states
+-- whether the states are settled was told
+pub record Told (net : Net) (s w : List ℕ) (b : Bool) (w′ : List ℕ) : Type 0 where
+  pub tells : b ≡ settled (step net) s
   pub spared : Spared net w w′
 
--- both halves of a ternary run ended as x and y say
-pub record Halved (net : Net) (x y : Ran) (w : List ℕ) (k l : ℕ) (s′ w′ : List ℕ) : Type 0 where
-  pub first : k ≡ x .count
-  pub second : l ≡ y .count
-  pub states : s′ ≡ y .states
+-- steps ended as the run of the network's step does: settled or not, after how many, in which states
+pub record Ended (net : Net) (run : (List ℕ → List ℕ) → Ran) (w : List ℕ) (b : Bool) (k : ℕ) (s′ w′ : List ℕ) : Type 0 where
+  pub ends : b ≡ run (step net) .ends
+  pub count : k ≡ run (step net) .count
+  pub states : s′ ≡ run (step net) .states
+  pub spared : Spared net w w′
+
+-- both halves of a ternary run ended
+pub record Halved (net : Net) (s : List ℕ) (ch : Changes) (w : List ℕ) (k l : ℕ) (s′ w′ : List ℕ) : Type 0 where
+  pub first : k ≡ firstHalf (nodes net) (step net) s ch .count
+  pub second : l ≡ secondHalf (nodes net) (step net) s ch .count
+  pub states : s′ ≡ secondHalf (nodes net) (step net) s ch .states
   pub spared : Spared net w w′

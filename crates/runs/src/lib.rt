@@ -2,16 +2,16 @@
 // that were checked.
 ghost use mathlib.Core.Path.{_≡_};
 ghost use mathlib.Core.Bool.{cond};
-ghost use Prim.Native.Nat.{ℕ, _≤_, _<_};
+ghost use Prim.Native.Nat.{_≤_};
 ghost use lib.ListN.{length};
 ghost use lib.Dec.{eqb};
 ghost use Rattle.model.specs.Bounds.{highestLimit};
-ghost use Rattle.model.specs.Net.{nodes, isInput, step};
-ghost use Rattle.model.specs.Run.{put, raised, settled, settle, limitOf, unitSteps, firstHalf, secondHalf};
+ghost use Rattle.model.specs.Net.{isInput, netOf};
+ghost use Rattle.model.specs.Run.{put, raised, settle, limitOf, unitSteps, changesOf};
 ghost use Rattle.model.specs.Entries.{cleared};
 ghost use Rattle.model.specs.Demands.{Enterable};
-ghost use Rattle.stepper.specs.Step.{netOf, Checked};
-ghost use Rattle.runs.specs.Runs.{changesOf, Named, Once, Spared, Stepped, Ended, Halved};
+ghost use Rattle.stepper.specs.Step.{Checked};
+ghost use Rattle.runs.specs.Runs.{Named, Once, Stepped, Told, Ended, Halved};
 
 // How steps ended: settled or not, and after how many.
 pub struct Ran {
@@ -66,7 +66,7 @@ pub fn clear(work: &mut [u16], used: usize)
     requires { ⌜ used ≤ length (now work) ⌝ }
     ensures { λ r. ⌜ now (work .exit) ≡ cleared used (now (work .entry)) ⌝ }
 {
-    stepper::start::zero(work, 0, used);
+    stepper::cells::zero(work, 0, used);
 }
 
 // One step; how many nodes differ after it.
@@ -99,7 +99,7 @@ pub fn settled(
     work: &mut [u16],
 ) -> bool
     requires { ⌜ Checked (netOf (now kinds) (now types) (now gates) (now sources) (now drains)) (now states) (length (now work)) ⌝ }
-    ensures { λ r. ⌜ (r ≡ settled (step (netOf (now (kinds .entry)) (now (types .entry)) (now (gates .entry)) (now (sources .entry)) (now (drains .entry)))) (now (states .entry))) × Spared (netOf (now (kinds .entry)) (now (types .entry)) (now (gates .entry)) (now (sources .entry)) (now (drains .entry))) (now (work .entry)) (now (work .exit)) ⌝ }
+    ensures { λ r. ⌜ Told (netOf (now (kinds .entry)) (now (types .entry)) (now (gates .entry)) (now (sources .entry)) (now (drains .entry))) (now (states .entry)) (now (work .entry)) r (now (work .exit)) ⌝ }
 {
     stepper::evaluate(kinds, states, types, gates, sources, drains, work);
     stepper::differing(states, work) == 0
@@ -117,7 +117,7 @@ pub fn settle(
     limit: u32,
 ) -> Ran
     requires { ⌜ Checked (netOf (now kinds) (now types) (now gates) (now sources) (now drains)) (now states) (length (now work)) × (limit ≤ highestLimit) ⌝ }
-    ensures { λ r. ⌜ Ended (netOf (now (kinds .entry)) (now (types .entry)) (now (gates .entry)) (now (sources .entry)) (now (drains .entry))) (settle (step (netOf (now (kinds .entry)) (now (types .entry)) (now (gates .entry)) (now (sources .entry)) (now (drains .entry)))) limit 0 (now (states .entry))) (now (work .entry)) (r .ends) (r .count) (now (states .exit)) (now (work .exit)) ⌝ }
+    ensures { λ r. ⌜ Ended (netOf (now (kinds .entry)) (now (types .entry)) (now (gates .entry)) (now (sources .entry)) (now (drains .entry))) (λ f. settle f limit 0 (now (states .entry))) (now (work .entry)) (r .ends) (r .count) (now (states .exit)) (now (work .exit)) ⌝ }
 {
     let mut count = 0;
     loop {
@@ -138,7 +138,7 @@ pub fn limit_of(limit: u32) -> u32
     ensures { λ r. ⌜ r ≡ limitOf limit ⌝ }
 {
     if limit == 0 {
-        return 100;
+        return model::DEFAULT_LIMIT;
     }
     limit
 }
@@ -157,7 +157,7 @@ pub fn unit_core(
     work: &mut [u16],
 ) -> Ran
     requires { ⌜ Checked (netOf (now kinds) (now types) (now gates) (now sources) (now drains)) (now states) (length (now work)) × Named (changesOf (now nodes) (now news)) (length (now kinds)) × (limit ≤ highestLimit) ⌝ }
-    ensures { λ r. ⌜ Ended (netOf (now (kinds .entry)) (now (types .entry)) (now (gates .entry)) (now (sources .entry)) (now (drains .entry))) (unitSteps (step (netOf (now (kinds .entry)) (now (types .entry)) (now (gates .entry)) (now (sources .entry)) (now (drains .entry)))) (now (states .entry)) (changesOf (now (nodes .entry)) (now (news .entry))) limit) (now (work .entry)) (r .ends) (r .count) (now (states .exit)) (now (work .exit)) ⌝ }
+    ensures { λ r. ⌜ Ended (netOf (now (kinds .entry)) (now (types .entry)) (now (gates .entry)) (now (sources .entry)) (now (drains .entry))) (λ f. unitSteps f (now (states .entry)) (changesOf (now (nodes .entry)) (now (news .entry))) limit) (now (work .entry)) (r .ends) (r .count) (now (states .exit)) (now (work .exit)) ⌝ }
 {
     enter(states, nodes, news);
     settle(
@@ -186,7 +186,7 @@ pub fn ternary_core(
     work: &mut [u16],
 ) -> Halves
     requires { ⌜ Checked (netOf (now kinds) (now types) (now gates) (now sources) (now drains)) (now states) (length (now work)) × (length (now news) ≡ length (now nodes)) × Enterable (length (now kinds)) (isInput (netOf (now kinds) (now types) (now gates) (now sources) (now drains))) (changesOf (now nodes) (now news)) ⌝ }
-    ensures { λ r. ⌜ Halved (netOf (now (kinds .entry)) (now (types .entry)) (now (gates .entry)) (now (sources .entry)) (now (drains .entry))) (firstHalf (length (now (kinds .entry))) (step (netOf (now (kinds .entry)) (now (types .entry)) (now (gates .entry)) (now (sources .entry)) (now (drains .entry)))) (now (states .entry)) (changesOf (now (nodes .entry)) (now (news .entry)))) (secondHalf (length (now (kinds .entry))) (step (netOf (now (kinds .entry)) (now (types .entry)) (now (gates .entry)) (now (sources .entry)) (now (drains .entry)))) (now (states .entry)) (changesOf (now (nodes .entry)) (now (news .entry)))) (now (work .entry)) (r .first) (r .second) (now (states .exit)) (now (work .exit)) ⌝ }
+    ensures { λ r. ⌜ Halved (netOf (now (kinds .entry)) (now (types .entry)) (now (gates .entry)) (now (sources .entry)) (now (drains .entry))) (now (states .entry)) (changesOf (now (nodes .entry)) (now (news .entry))) (now (work .entry)) (r .first) (r .second) (now (states .exit)) (now (work .exit)) ⌝ }
 {
     let n = kinds.len() as u32;
     raise_changed(states, nodes, news);

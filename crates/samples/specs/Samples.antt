@@ -1,4 +1,4 @@
--- Entries on random networks, sound and flawed, against an outside program that tries every choice: by `outside/choices.py sample 2 78`,
+-- Entries on random networks, sound and flawed, against an outside program that tries every choice: by `outside/choices/choices.py sample 2 78`,
 -- which writes this file and never reads the definitions. Assumes nothing.
 use Prim.Native.Nat.{ℕ, zero, suc}
 use mathlib.Core.Path.{_≡_, refl}

@@ -1,5 +1,5 @@
 -- What lies behind the functions of a step.
-pub mod Cells
+pub mod Stores
 pub mod Lifts
 pub mod Least
 pub mod Next

@@ -6,12 +6,11 @@ use mathlib.Core.List.{List, []}
 use lib.ListN.{length}
 use lib.Dec.{eqb}
 use Rattle.model.specs.Places.{at}
-use Rattle.model.specs.Net.{Net, nodes, isInput, standAt, sourceState}
+use Rattle.model.specs.Net.{Net, nodes, isInput, standAt, sourceState, netOf}
 use Rattle.model.specs.Rules.{cells}
 use Rattle.model.specs.Ways.{choose}
 use Rattle.model.specs.Tables.{Least, starts, byTables}
 use Rattle.model.specs.RuleOne.{frame}
-use Rattle.stepper.specs.Step.{netOf}
 use Rattle.stepper.specs.Relax.{cell}
 
 -- w′ is w with f's values in the `count` cells from `first` on

@@ -8,10 +8,6 @@ use Rattle.model.specs.Places.{at}
 use Rattle.model.specs.Net.{Net, nodes, transistors, step}
 use Rattle.model.specs.Rules.{cells}
 
--- the lent tables as a network
-abbrev pub netOf : List ℕ → List ℕ → List ℕ → List ℕ → List ℕ → Net
-netOf kinds types gates sources drains = record { kinds = kinds; types = types; gates = gates; sources = sources; drains = drains }
-
 -- the three nodes that a transistor names are there
 pub record Wired (net : Net) (t : ℕ) : Type 0 where
   pub gate : at (net .gates) t < nodes net

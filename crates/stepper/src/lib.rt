@@ -3,27 +3,21 @@
 // The work area of n nodes: definite strengths in [0, n), the tables against 0 and against 1 in [n, 2n) and [2n, 3n), a floor of
 // zeros in [3n, 4n); at the end the next states in [0, n).
 ghost use mathlib.Core.Path.{_≡_};
-ghost use Prim.Native.Nat.{ℕ, _+_, _*_, _≤_, _<_};
+ghost use Prim.Native.Nat.{_≤_};
 ghost use lib.ListN.{length};
 ghost use lib.Dec.{eqb};
 ghost use mathlib.Core.Bool.{not, cond};
+ghost use Rattle.model.specs.Net.{netOf};
 ghost use Rattle.model.specs.Bounds.{mostNodes};
 ghost use Rattle.model.specs.Places.{tab, at};
-ghost use Rattle.model.specs.Net.{inputKind};
 ghost use Rattle.model.specs.Entries.{altered};
-ghost use Rattle.stepper.specs.Step.{netOf, Checked, Evaluated};
+ghost use Rattle.stepper.specs.Step.{Checked, Evaluated};
 ghost use Rattle.stepper.specs.Start.{Bytes};
 
-pub mod relax;
-pub mod start;
-pub mod tables;
-
-// The one place that says which kinds are inputs.
-pub fn is_input(kind: u8) -> bool
-    ensures { λ r. ⌜ r ≡ inputKind kind ⌝ }
-{
-    kind == 2
-}
+pub mod cells;
+mod relax;
+mod start;
+mod tables;
 
 // One step: the next states in work[0..n]; the cells from 4n + 2t on stay.
 pub fn evaluate(

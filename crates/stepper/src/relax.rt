@@ -1,11 +1,10 @@
 // Strengths pass along transistors until nothing rises: a table of the work area over a floor, which is another table of it.
 ghost use mathlib.Core.Path.{_≡_};
-ghost use Prim.Native.Nat.{ℕ, min, _+_, _≤_, _<_};
+ghost use Prim.Native.Nat.{min, _+_, _<_};
 ghost use lib.ListN.{length};
-ghost use Rattle.model.specs.Places.{at};
-ghost use Rattle.model.specs.Net.{inputs, stand};
+ghost use Rattle.model.specs.Net.{inputs, stand, netOf};
 ghost use Rattle.model.specs.Ways.{choose};
-ghost use Rattle.stepper.specs.Step.{netOf, Checked};
+ghost use Rattle.stepper.specs.Step.{Checked};
 ghost use Rattle.stepper.specs.Relax.{flow, Placed, Pulled, Tried, Swept, Relaxed};
 
 // The most that a transistor lets pass: all.
@@ -47,7 +46,7 @@ pub fn pull(
     requires { ⌜ (b < length (now kinds)) × (table + a < length (now work)) × (table + b < length (now work)) × (floor + b < length (now work)) ⌝ }
     ensures { λ r. ⌜ Pulled (inputs (now (kinds .entry))) table floor ceiling a b (now (work .entry)) (now (work .exit)) r ⌝ }
 {
-    if crate::is_input(kinds[b]) {
+    if model::is_input(kinds[b]) {
         return 0;
     }
     let x = lesser(work[table + a], ceiling);

@@ -1,11 +1,10 @@
 // What the tables of a step begin with, and the next states that they end in.
 ghost use mathlib.Core.Path.{_≡_};
-ghost use Prim.Native.Nat.{ℕ, _+_, _*_, _≤_, _<_};
+ghost use Prim.Native.Nat.{_+_, _*_, _≤_, _<_};
 ghost use lib.ListN.{length};
 ghost use Rattle.model.specs.Places.{at};
 ghost use Rattle.model.specs.Net.{sourceState};
 ghost use Rattle.model.specs.Bounds.{mostNodes};
-ghost use Rattle.stepper.specs.Relax.{cell};
 ghost use Rattle.stepper.specs.Start.{Written, Bytes, alone, own, begins, next};
 
 // The strength of node v as a source: input 3, pullup 2, normal 1.
@@ -13,7 +12,7 @@ pub fn strength(kinds: &[u8], v: usize) -> u16
     requires { ⌜ v < length (now kinds) ⌝ }
     ensures { λ r. ⌜ r ≡ own (now (kinds .entry)) v ⌝ }
 {
-    if crate::is_input(kinds[v]) {
+    if model::is_input(kinds[v]) {
         return 3;
     }
     if kinds[v] == 1 {
@@ -42,7 +41,7 @@ pub fn against(kinds: &[u8], states: &[u8], work: &[u16], v: usize, b: u8) -> u1
         return 0;
     }
     let x = strength(kinds, v);
-    if crate::is_input(kinds[v]) {
+    if model::is_input(kinds[v]) {
         return x;
     }
     if x < work[v] {
@@ -57,7 +56,7 @@ pub fn next_state(kinds: &[u8], states: &[u8], work: &[u16], v: usize) -> u8
     ensures { λ r. ⌜ r ≡ next (alone (now (kinds .entry))) (now (states .entry)) (now (work .entry)) v ⌝ }
 {
     let n = kinds.len();
-    if crate::is_input(kinds[v]) {
+    if model::is_input(kinds[v]) {
         return states[v];
     }
     if work[n + v] == 0 {
@@ -67,18 +66,6 @@ pub fn next_state(kinds: &[u8], states: &[u8], work: &[u16], v: usize) -> u8
         return 1;
     }
     2
-}
-
-// Zeros in work[first..first + count].
-pub fn zero(work: &mut [u16], first: usize, count: usize)
-    requires { ⌜ first + count ≤ length (now work) ⌝ }
-    ensures { λ r. ⌜ Written (λ k. 0) (now (work .entry)) first count (now (work .exit)) ⌝ }
-{
-    let mut k = 0;
-    while k < count {
-        work[first + k] = 0;
-        k += 1;
-    }
 }
 
 // Each node's own strength, in work[0..n].

@@ -1,9 +1,9 @@
 // The three tables of a step, one relaxation each: the definite strengths in work[0..n], and behind them what may keep each node
 // from 0 and from 1.
-ghost use mathlib.Core.Path.{_≡_};
-ghost use Prim.Native.Nat.{ℕ, _+_, _*_, _≤_, _<_};
+ghost use Prim.Native.Nat.{_+_, _*_, _≤_};
 ghost use lib.ListN.{length};
-ghost use Rattle.stepper.specs.Step.{netOf, Checked};
+ghost use Rattle.model.specs.Net.{netOf};
+ghost use Rattle.stepper.specs.Step.{Checked};
 ghost use Rattle.stepper.specs.Start.{Definite, Against};
 
 // The definite strengths, in work[0..n]: over closed transistors, with no floor, for which zeros stand in work[3n..4n].
@@ -20,7 +20,7 @@ pub fn definite(
     ensures { λ r. ⌜ Definite (netOf (now (kinds .entry)) (now (types .entry)) (now (gates .entry)) (now (sources .entry)) (now (drains .entry))) (now (states .entry)) (now (work .entry)) (now (work .exit)) ⌝ }
 {
     let n = kinds.len();
-    crate::start::zero(work, 3 * n, n);
+    crate::cells::zero(work, 3 * n, n);
     crate::start::start_definite(kinds, work);
     crate::relax::relax(
         kinds,

@@ -5,9 +5,8 @@ use native.Mathlib.Omega.{arith}
 use mathlib.Core.Path.{_≡_, refl, _∙_}
 use lib.ListN.{length}
 use borrow.Author.Needs.{needs}
-use Rattle.model.specs.Net.{step}
+use Rattle.model.specs.Net.{step, netOf}
 use Rattle.model.specs.Run.{settle}
-use Rattle.stepper.specs.Step.{netOf}
 use Rattle.stepper.proofs.Least.{checked-with}
 use Rattle.runs.specs.Runs.{Spared}
 use Rattle.runs.proofs.Steps.{ends, stops, goes}
@@ -47,11 +46,7 @@ same-length-2 c =
     omega (arith, after-evaluate .kept, turn .inv .2)
 
 returns : tie.Need-returns Inv-loop μ-loop
-returns c =
-    let turn = c .before .before .before .before .before .before .before .before .before .loop in
-    let start = c .before .before .before .before .before .before .before .before .before .before .before .before .before .before .before .before .before in
-    let after-evaluate = c .before .before .before .before .before .before .evaluate in
-    ends (turn .inv .1 ∙ start .pre .0 .states) (after-evaluate .ensures) (c .before .differing .ensures) (start .args .limit) (turn .inv .3) (turn .inv .4) (c .if1 .taken)
+returns c = ends (c .before .before .before .before .before .before .before .before .before .loop .inv .1 ∙ c .before .before .before .before .before .before .before .before .before .before .before .before .before .before .before .before .before .pre .0 .states) (c .before .before .before .before .before .before .evaluate .ensures) (c .before .differing .ensures) (c .before .before .before .before .before .before .before .before .before .before .before .before .before .before .before .before .before .args .limit) (c .before .before .before .before .before .before .before .before .before .loop .inv .3) (c .before .before .before .before .before .before .before .before .before .loop .inv .4) (c .if1 .taken)
 
 same-length-3 : tie.Need-same-length-3 Inv-loop μ-loop
 same-length-3 c =
@@ -65,11 +60,7 @@ same-length-4 c =
     omega (arith, after-evaluate .kept, turn .inv .2)
 
 returns-2 : tie.Need-returns-2 Inv-loop μ-loop
-returns-2 c =
-    let turn = c .before .before .before .before .before .before .before .before .before .before .loop in
-    let start = c .before .before .before .before .before .before .before .before .before .before .before .before .before .before .before .before .before .before in
-    let after-evaluate = c .before .before .before .before .before .before .before .evaluate in
-    stops (turn .inv .1 ∙ start .pre .0 .states) (after-evaluate .ensures) (c .before .before .differing .ensures) (start .args .limit) (turn .inv .3) (turn .inv .4) (c .before .if1 .left) (c .if2 .taken)
+returns-2 c = stops (c .before .before .before .before .before .before .before .before .before .before .loop .inv .1 ∙ c .before .before .before .before .before .before .before .before .before .before .before .before .before .before .before .before .before .before .pre .0 .states) (c .before .before .before .before .before .before .before .evaluate .ensures) (c .before .before .differing .ensures) (c .before .before .before .before .before .before .before .before .before .before .before .before .before .before .before .before .before .before .args .limit) (c .before .before .before .before .before .before .before .before .before .before .loop .inv .3) (c .before .before .before .before .before .before .before .before .before .before .loop .inv .4) (c .before .if1 .left) (c .if2 .taken)
 
 store-requires : tie.Need-store-requires Inv-loop μ-loop
 store-requires c κs =
@@ -85,13 +76,7 @@ loop-less : tie.Need-loop-less Inv-loop μ-loop
 loop-less c = search needs
 
 loop-again : tie.Need-loop-again Inv-loop μ-loop
-loop-again c =
-    let turn = c .before .before .before .before .before .before .before .before .before .before .before .before .before .before .before .loop in
-    let after-evaluate = c .before .before .before .before .before .before .before .before .before .before .before .before .evaluate in
-    let start = c .before .before .before .before .before .before .before .before .before .before .before .before .before .before .before .before .before .before .before .before .before .before .before in
-    let after-differing = c .before .before .before .before .before .before .before .differing in
-    let after-if1 = c .before .before .before .before .before .before .if1 in
-    (omega arith, omega (arith, c .before .before .store .kept, turn .inv .1), omega (arith, after-evaluate .kept, turn .inv .2), goes (turn .inv .1 ∙ start .pre .0 .states) (after-evaluate .ensures) (after-differing .ensures) (start .args .limit) (turn .inv .3) (after-if1 .left) (omega arith) (c .before .before .store .ensures), λ k l. after-evaluate .ensures .after k l ∙ turn .inv .4 k l)
+loop-again c = (omega arith, omega (arith, c .before .before .store .kept, c .before .before .before .before .before .before .before .before .before .before .before .before .before .before .before .loop .inv .1), omega (arith, c .before .before .before .before .before .before .before .before .before .before .before .before .evaluate .kept, c .before .before .before .before .before .before .before .before .before .before .before .before .before .before .before .loop .inv .2), goes (c .before .before .before .before .before .before .before .before .before .before .before .before .before .before .before .loop .inv .1 ∙ c .before .before .before .before .before .before .before .before .before .before .before .before .before .before .before .before .before .before .before .before .before .before .before .pre .0 .states) (c .before .before .before .before .before .before .before .before .before .before .before .before .evaluate .ensures) (c .before .before .before .before .before .before .before .differing .ensures) (c .before .before .before .before .before .before .before .before .before .before .before .before .before .before .before .before .before .before .before .before .before .before .before .args .limit) (c .before .before .before .before .before .before .before .before .before .before .before .before .before .before .before .loop .inv .3) (c .before .before .before .before .before .before .if1 .left) (omega arith) (c .before .before .store .ensures), λ k l. c .before .before .before .before .before .before .before .before .before .before .before .before .evaluate .ensures .after k l ∙ c .before .before .before .before .before .before .before .before .before .before .before .before .before .before .before .loop .inv .4 k l)
 
 pub settle-spec : {M : Type 1} → statement M
 settle-spec =

@@ -14,10 +14,7 @@ same-length : tie.Need-same-length
 same-length c = search needs
 
 returns : tie.Need-returns
-returns c =
-    let start = c .before .before .before .before .before .before .before .before .before .before .before .before .before in
-    let after-evaluate = c .before .before .before .before .evaluate in
-    (settled-test (start .pre .states) (after-evaluate .ensures) (c .differing .ensures), after-evaluate .ensures .after)
+returns c = record { tells = settled-test (c .before .before .before .before .before .before .before .before .before .before .before .before .before .pre .states) (c .before .before .before .before .evaluate .ensures) (c .differing .ensures); spared = c .before .before .before .before .evaluate .ensures .after }
 
 pub settled-spec : {M : Type 1} → statement M
 settled-spec = tie.close (tie.spec evaluate-requires differing-requires same-length returns)

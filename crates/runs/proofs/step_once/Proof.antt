@@ -25,11 +25,7 @@ same-length-2 : tie.Need-same-length-2
 same-length-2 c = search needs
 
 returns : tie.Need-returns
-returns c =
-    let after-differing = c .before .before .before .before .before .differing in
-    let start = c .before .before .before .before .before .before .before .before .before .before .before .before .before .before .before .before .before .before .before .before in
-    let after-evaluate = c .before .before .before .before .before .before .before .before .before .before .evaluate in
-    record { count = after-differing .ensures ∙ evaluated-count (start .pre .states) (after-evaluate .ensures); states = c .before .before .store .ensures ∙ evaluated-states (start .pre .states) (after-evaluate .ensures); spared = after-evaluate .ensures .after }
+returns c = record { count = c .before .before .before .before .before .differing .ensures ∙ evaluated-count (c .before .before .before .before .before .before .before .before .before .before .before .before .before .before .before .before .before .before .before .before .pre .states) (c .before .before .before .before .before .before .before .before .before .before .evaluate .ensures); states = c .before .before .store .ensures ∙ evaluated-states (c .before .before .before .before .before .before .before .before .before .before .before .before .before .before .before .before .before .before .before .before .pre .states) (c .before .before .before .before .before .before .before .before .before .before .evaluate .ensures); spared = c .before .before .before .before .before .before .before .before .before .before .evaluate .ensures .after }
 
 pub step-once-spec : {M : Type 1} → statement M
 step-once-spec =

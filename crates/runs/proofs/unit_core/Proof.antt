@@ -29,11 +29,7 @@ same-length-2 : tie.Need-same-length-2
 same-length-2 c = search needs
 
 returns : tie.Need-returns
-returns c =
-    let after-enter = c .before .before .before .before .before .before .before .before .before .before .enter in
-    let after-limit-of = c .before .before .before .before .before .limit-of in
-    let after-settle = c .before .before .before .before .settle in
-    unit-ended _ _ _ _ (after-enter .ensures) (after-limit-of .ensures) (after-settle .ensures)
+returns c = unit-ended _ _ _ _ (c .before .before .before .before .before .before .before .before .before .before .enter .ensures) (c .before .before .before .before .before .limit-of .ensures) (c .before .before .before .before .settle .ensures)
 
 pub unit-core-spec : {M : Type 1} → statement M
 unit-core-spec =

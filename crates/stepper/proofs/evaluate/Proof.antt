@@ -32,11 +32,7 @@ same-length : tie.Need-same-length
 same-length c = search needs
 
 returns : tie.Need-returns
-returns c =
-    let after-definite = c .before .before .before .before .before .before .before .before .before .before .before .before .before .before .definite in
-    let after-possible = c .before .before .before .before .before .before .before .before .before .before .possible in
-    let after-possible2 = c .before .before .before .before .before .before .possible2 in
-    evaluated _ _ (after-definite .ensures) (after-possible .ensures) (after-possible2 .ensures) (c .before .before .finish .ensures .0) (c .before .before .finish .ensures .1)
+returns c = evaluated _ _ (c .before .before .before .before .before .before .before .before .before .before .before .before .before .before .definite .ensures) (c .before .before .before .before .before .before .before .before .before .before .possible .ensures) (c .before .before .before .before .before .before .possible2 .ensures) (c .before .before .finish .ensures .0) (c .before .before .finish .ensures .1)
 
 pub evaluate-spec : {M : Type 1} → statement M
 evaluate-spec =

@@ -2,7 +2,7 @@
 use Prim.Native.Nat.{ℕ}
 use native.Mathlib.Omega.{arith}
 use lib.ListN.{length}
-use Rattle.stepper.specs.Step.{netOf}
+use Rattle.model.specs.Net.{netOf}
 use Rattle.stepper.specs.Relax.{flow, Lifts, none}
 use Rattle.stepper.proofs.Lifts.{room, joined, lifts-length, lifts-room, relaxed}
 use Rattle.stepper.proofs.relax.relax.Statement.{statement}
@@ -23,10 +23,7 @@ sweep-requires c κs =
     (rw (lifts-length _ (c .before .loop .inv .1)) (start .pre .0), start .pre .1)
 
 loop-less : tie.Need-loop-less Inv-loop μ-loop
-loop-less c =
-    let turn = c .before .before .before .before .before .loop in
-    let after-sweep = c .before .before .before .sweep in
-    omega (arith, lifts-room _ (omega (arith, lifts-length _ (turn .inv .1))) (after-sweep .ensures .lifts))
+loop-less c = omega (arith, lifts-room _ (omega (arith, lifts-length _ (c .before .before .before .before .before .loop .inv .1))) (c .before .before .before .sweep .ensures .lifts))
 
 loop-again : tie.Need-loop-again Inv-loop μ-loop
 loop-again c =

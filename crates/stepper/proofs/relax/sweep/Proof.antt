@@ -5,7 +5,7 @@ use native.Mathlib.Omega.{arith}
 use mathlib.Core.Path.{_≡_, refl, _∙_}
 use lib.ListN.{length}
 use borrow.Author.Needs.{needs}
-use Rattle.stepper.specs.Step.{netOf}
+use Rattle.model.specs.Net.{netOf}
 use Rattle.stepper.specs.Relax.{flow, Swept}
 use Rattle.stepper.proofs.Lifts.{lifts-length, swept-none, swept-more, swept-end}
 use Rattle.stepper.proofs.relax.sweep.Statement.{statement}
@@ -37,9 +37,7 @@ loop-less : tie.Need-loop-less Inv-loop μ-loop
 loop-less c = search needs
 
 loop-again : tie.Need-loop-again Inv-loop μ-loop
-loop-again c =
-    let turn = c .before .before .before .before .before .loop in
-    (omega arith, lifts-length _ (c .before .before .relax-one .ensures .lifts) ∙ turn .inv .1, swept-more _ (turn .inv .2) (c .before .before .relax-one .ensures))
+loop-again c = (omega arith, lifts-length _ (c .before .before .relax-one .ensures .lifts) ∙ c .before .before .before .before .before .loop .inv .1, swept-more _ (c .before .before .before .before .before .loop .inv .2) (c .before .before .relax-one .ensures))
 
 same-length : tie.Need-same-length Inv-loop μ-loop
 same-length c = c .before .loop .inv .1

@@ -6,7 +6,7 @@ use mathlib.Core.Path.{_≡_, refl}
 use lib.ListN.{length, length-set}
 use borrow.Author.Needs.{needs}
 use Rattle.stepper.specs.Start.{Written, own}
-use Rattle.stepper.proofs.Cells.{written-none, written-more, written-end}
+use Rattle.stepper.proofs.Stores.{written-none, written-more, written-end}
 use Rattle.stepper.proofs.start.start_definite.Statement.{statement}
 use Rattle.stepper.proofs.start.start_definite.Tie as tie
 

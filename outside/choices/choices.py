@@ -3,8 +3,8 @@
 
 "A non-input node becomes 0 or 1 exactly when every way of opening or closing the unknown transistors gives it that state; otherwise X."
 
-It knows nothing of the project's definitions. It follows the paper's rules, one choice of open or closed after another (rules.py), and what it
-finds is compared with the paper's bench set (bench.py) and, on random networks (drawing.py), with what the definitions compute (claim.py).
+It knows nothing of the project's definitions. It follows the rules in words (docs/MODEL.md), one choice of open or closed after another (rules.py), and what it
+finds is compared with the bench set (bench.py) and, on random networks (drawing.py), with what the definitions compute (claim.py).
 
     choices.py bench               run K1 to K14 and compare with bench.txt
     choices.py sample SEED COUNT   print COUNT entries with what they leave, as a claim about the definitions

@@ -1,4 +1,4 @@
-"""The bench set K1 to K14, in the paper's words."""
+"""The bench set K1 to K14, as they were asked for."""
 
 import re
 

@@ -1,4 +1,4 @@
-"""The paper's rules, by trying every choice: how a transistor stands, one unit step, the five entries and what they refuse."""
+"""The rules, by trying every choice: how a transistor stands, one unit step, the five entries and what they refuse."""
 
 import itertools
 from collections import namedtuple

@@ -1,4 +1,4 @@
--- `stepper::start::zero` meets its contract: the cells passed are 0, the others as they came. Assumes nothing.
+-- `stepper::cells::zero` meets its contract: the cells passed are 0, the others as they came. Assumes nothing.
 use Prim.Native.Nat.{_-_, _≤_}
 use native.Mathlib.Nat.{le-antisymm}
 use native.Mathlib.Omega.{arith}
@@ -6,9 +6,9 @@ use mathlib.Core.Path.{_≡_, refl}
 use lib.ListN.{length, length-set}
 use borrow.Author.Needs.{needs}
 use Rattle.stepper.specs.Start.{Written}
-use Rattle.stepper.proofs.Cells.{written-none, written-more, written-end}
-use Rattle.stepper.proofs.start.zero.Statement.{statement}
-use Rattle.stepper.proofs.start.zero.Tie as tie
+use Rattle.stepper.proofs.Stores.{written-none, written-more, written-end}
+use Rattle.stepper.proofs.cells.zero.Statement.{statement}
+use Rattle.stepper.proofs.cells.zero.Tie as tie
 
 abbrev Inv-loop : tie.InvT-loop
 Inv-loop work₀ first count k₀ work k = (k ≤ count) × (length work ≡ length work₀) × Written (λ i. 0) work₀ first k work

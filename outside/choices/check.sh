@@ -2,7 +2,7 @@
 # Compares the outside program with the bench set and with the kept samples, a line each; status 1 if anything differs.
 #   check.sh --self-test   plants faults in it and in a copy of the samples, and expects that each is noticed
 set -u
-cd "$(dirname "$0")/.." || exit 1
+cd "$(dirname "$0")/../.." || exit 1
 samples=crates/samples/specs/Samples.antt
 
 if ! command -v python3 >/dev/null 2>&1; then
@@ -15,7 +15,7 @@ failed=0
 compare() {
     what=$1 good=$2 bad=$3
     shift 3
-    if python3 -B outside/"$@"; then
+    if python3 -B outside/choices/"$@"; then
         echo "outside: $what $good"
     else
         echo "outside: $what $bad"

@@ -12,7 +12,7 @@ TITLES = {
 }
 
 HEAD = """\
--- Entries on random networks, sound and flawed, against an outside program that tries every choice: by `outside/choices.py sample {seed} {count}`,
+-- Entries on random networks, sound and flawed, against an outside program that tries every choice: by `outside/choices/choices.py sample {seed} {count}`,
 -- which writes this file and never reads the definitions. Assumes nothing.
 use Prim.Native.Nat.{{ℕ, zero, suc}}
 use mathlib.Core.Path.{{_≡_, refl}}

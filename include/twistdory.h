@@ -1,0 +1,362 @@
+/*
+   twistdory.h: Twistdory, a switch-level simulator for MOS networks
+
+   Twistdory simulates a network of nodes and transistors in which a node is 0,
+   1 or X (unknown) and a transistor is a switch. It has no volts and no
+   nanoseconds. What it answers does not depend on the order in which the
+   transistors are listed, and a node is 0 or 1 only where every way of opening
+   or closing the transistors that nobody can know gives it that state.
+
+   The caller lends tables and reads four numbers. There is nothing to
+   initialise, to allocate or to free. No table, however malformed, makes a
+   call trap or run on: each call checks what it is lent and refuses what it
+   cannot take, with a number that says why and a place that says where.
+
+   This file is the manual. It has, in this order:
+
+       1  an example                     6  the answers
+       2  the tables                     7  buffers, NULL, threads
+       3  how a transistor stands        8  the five calls
+       4  one step                       9  costs
+       5  runs
+
+
+   1  AN EXAMPLE
+
+   A whole program: an inverter with a pullup. Compile it with
+   `cc -Iinclude examples/inverter.c build/libtwistdory.a`. It prints
+   "DONE after 1 step: in 1, out 0".
+
+---- examples/inverter.c ----
+#include <stdio.h>
+
+#include "twistdory.h"
+
+int main(void)
+{
+    // Three nodes: 0 is ground, 1 the inverter's input, 2 its output.
+    const uint8_t kinds[3] = {TWISTDORY_INPUT, TWISTDORY_INPUT, TWISTDORY_PULLUP};
+
+    // One n transistor. Its gate is node 1; its channel links nodes 0 and 2.
+    const uint8_t types[1] = {TWISTDORY_N};
+    const uint16_t gates[1] = {1};
+    const uint16_t sources[1] = {0};
+    const uint16_t drains[1] = {2};
+
+    uint8_t states[3];
+    uint16_t work[TWISTDORY_WORK_CELLS(3, 1)];
+    uint32_t answer[4];
+
+    // Every state becomes X.
+    twistdory_reset(kinds, 3, states, 3, answer);
+
+    // Ground takes 0 and the input 1; steps follow until nothing moves.
+    const uint16_t change_nodes[2] = {0, 1};
+    const uint8_t change_states[2] = {TWISTDORY_0, TWISTDORY_1};
+    twistdory_unit_run(kinds, 3, states, 3, types, 1, gates, 1, sources, 1, drains, 1,
+                       change_nodes, 2, change_states, 2, 0,
+                       work, TWISTDORY_WORK_CELLS(3, 1), answer);
+
+    if (answer[TWISTDORY_ANSWER] != TWISTDORY_DONE) {
+        printf("answer %u, place %u\n", (unsigned)answer[TWISTDORY_ANSWER],
+               (unsigned)answer[TWISTDORY_PLACE]);
+        return 1;
+    }
+    printf("DONE after %u step: in %c, out %c\n", (unsigned)answer[TWISTDORY_FIRST_COUNT],
+           "01X"[states[1]], "01X"[states[2]]);
+    return 0;
+}
+---- end of the example ----
+*/
+
+#ifndef TWISTDORY_H
+#define TWISTDORY_H
+
+#include <stddef.h>
+#include <stdint.h>
+
+#ifdef __cplusplus
+extern "C" {
+#endif
+
+/*
+   2  THE TABLES
+
+   Nodes and transistors are numbered from 0 by their place in the tables.
+
+   kinds          one byte for each node: what kind of node it is. The length
+                  of this table is the number of nodes.
+   states         one byte for each node: 0, 1 or X. Same length as kinds.
+   types, gates, sources, drains
+                  four tables of equal length, one entry for each transistor:
+                  its type, and the numbers of the nodes at its gate, its
+                  source and its drain. Source and drain are the two ends of
+                  its channel; swapping them alters nothing. Both may be the
+                  same node, or both inputs (the transistor then has no
+                  effect), and the gate may be one of the ends.
+   change_nodes, change_states
+                  two tables of equal length, one entry for each change: the
+                  number of an input, and its new state. No node may be named
+                  twice.
+   work           room for the call's own use, in 16-bit cells.
+*/
+
+/* Kinds of nodes, weakest first. */
+enum {
+    TWISTDORY_NORMAL = 0, /* keeps its state as charge when nothing drives it */
+    TWISTDORY_PULLUP = 1, /* drawn to 1 unless an input drives it */
+    TWISTDORY_INPUT = 2   /* ground, power, clocks, data: altered by changes alone */
+};
+
+/* States of nodes. */
+enum {
+    TWISTDORY_0 = 0, /* low */
+    TWISTDORY_1 = 1, /* high */
+    TWISTDORY_X = 2  /* unknown */
+};
+
+/* Types of transistors. */
+enum {
+    TWISTDORY_N = 0, /* closed when its gate is 1 */
+    TWISTDORY_P = 1, /* closed when its gate is 0 */
+    TWISTDORY_D = 2  /* depletion: always closed */
+};
+
+/* Bounds. A length outside them is refused by TWISTDORY_SIZE. */
+enum {
+    TWISTDORY_MIN_NODES = 1,
+    TWISTDORY_MAX_NODES = 4096,
+    TWISTDORY_MAX_TRANSISTORS = 8192, /* none is accepted too */
+    TWISTDORY_MAX_CHANGES = 4096      /* none is accepted too */
+};
+
+/* The step limit of a unit run. A limit passed as 0 stands for the default;
+   one above the greatest is refused by TWISTDORY_LIMIT. */
+enum {
+    TWISTDORY_DEFAULT_LIMIT = 100,
+    TWISTDORY_MAX_LIMIT = 10000
+};
+
+/* The least number of cells of a work area. A larger area is accepted, and
+   the cells beyond this number are neither read nor written. */
+#define TWISTDORY_WORK_CELLS(nodes, transistors) \
+    ((size_t)4 * (size_t)(nodes) + (size_t)2 * (size_t)(transistors))
+
+/*
+   3  HOW A TRANSISTOR STANDS
+
+                    gate 0     gate 1     gate X
+       N            open       closed     unknown
+       P            closed     open       unknown
+       D            closed     closed     closed
+
+
+   4  ONE STEP
+
+   All transistors are read from the states before the step and stand still
+   during it; all new states are worked out from those same old states.
+
+   Suppose first that every unknown transistor has been chosen to be open or
+   closed. Closed transistors then join nodes that are not inputs into sets.
+   An input is never part of a set and never joins two sets; it touches every
+   set to which a closed transistor links it. A set takes its state from its
+   strongest sources alone:
+
+       inputs that touch it, each with its own state;    if there are none,
+       the pullup nodes in it, each with state 1;        if there are none,
+       the normal nodes in it, each with its stored state.
+
+   If these all agree on 0 or on 1, that is the state of every node in the
+   set; otherwise it is X.
+
+   The new state of a node that is not an input is 0 if every choice gives it
+   0, 1 if every choice gives it 1, and X otherwise. Inputs keep their state.
+
+   A network is settled when a step would alter nothing.
+
+
+   5  RUNS
+
+   A unit run enters the changes and then takes steps until the network is
+   settled or the step limit is reached. It shows what happens if every
+   transistor takes exactly one unit of time.
+
+   A ternary run asks what can be relied on whatever the delays are. It starts
+   from a settled network. First half: each changed input (one whose new state
+   differs from its present one) goes to X, and steps follow until settled.
+   Second half: the changed inputs take their new states, and steps go on from
+   there until settled. Each half takes at most as many steps as there are
+   nodes that are not inputs, so there is no limit to give. Where the result
+   is 0 or 1, no order in which the inputs arrive and the nodes follow can end
+   in another settled state; where it is X, there may be a race.
+
+
+   6  THE ANSWERS
+
+   Every call writes four numbers: the answer, a place, and two counts.
+*/
+
+/* Where the four numbers stand. */
+enum {
+    TWISTDORY_ANSWER = 0,
+    TWISTDORY_PLACE = 1,
+    TWISTDORY_FIRST_COUNT = 2,
+    TWISTDORY_SECOND_COUNT = 3
+};
+
+/*
+   The answers. If several apply the lowest number is given, and the place is
+   always the first one. A call tests only what it is lent.
+
+   After answers 1 to 7 the node states are as they came and both counts are 0.
+   The place is 0 unless the list says otherwise.
+
+   Work area (step and both runs): after answers 0, 7 and 8 the first
+   TWISTDORY_WORK_CELLS(nodes, transistors) cells are 0 and the rest is as it
+   came; after answers 1 to 6 the whole area is as it came. What it holds
+   before a call does not matter.
+*/
+enum twistdory_answer {
+    /* the call did what it says */
+    TWISTDORY_DONE = 0,
+    /* a length is out of bounds, lengths that should be equal are not, or the
+       work area is too small */
+    TWISTDORY_SIZE = 1,
+    /* unit run: the limit is above TWISTDORY_MAX_LIMIT */
+    TWISTDORY_LIMIT = 2,
+    /* a kind above 2; place: the node */
+    TWISTDORY_KIND = 3,
+    /* a type above 2, or a gate, source or drain that is no node; place: the
+       transistor */
+    TWISTDORY_WIRE = 4,
+    /* a state above 2; place: the node */
+    TWISTDORY_STATE = 5,
+    /* a change that names no node, a node that is no input, a state above 2,
+       or a node named earlier in the list; place: the change */
+    TWISTDORY_CHANGE = 6,
+    /* ternary run: the states as lent, before any change, are not settled */
+    TWISTDORY_START = 7,
+    /* unit run: not settled after the limit's steps; the first count is the
+       limit in force, and the states are those after exactly that many steps,
+       inputs with their new states */
+    TWISTDORY_OSCILLATES = 8
+};
+
+/*
+   7  BUFFERS, NULL, THREADS
+
+   Lengths     A table passes as a pointer and then its length in elements,
+               not in bytes. Any length may be passed: a wrong one is refused,
+               provided that the memory is there.
+   Ownership   The caller owns every table, before and after. A call keeps no
+               pointer to it. Tables passed as pointers to const are never
+               written. `answer` must point to four numbers and is always
+               written.
+   NULL        A table of length 0 may be NULL; this is safe for every table.
+               A NULL with another length, and a NULL answer, are not allowed.
+   Alignment   As C asks: 2 bytes for the 16-bit tables, 4 for `answer`.
+   Overlap     A table that is written (states, work, answer) must not overlap
+               another table of the same call. Tables passed as pointers to
+               const may share memory with each other.
+   Threads     There is no shared state, no allocation, no file and no lock:
+               calls on different tables may run at the same time.
+
+
+   8  THE FIVE CALLS
+*/
+
+/*
+   Check: tests the kinds and the transistor tables and does nothing else.
+   Answers: DONE, SIZE, KIND, WIRE. Counts: 0 and 0.
+*/
+void twistdory_check(const uint8_t *kinds, size_t kinds_length,
+                     const uint8_t *types, size_t types_length,
+                     const uint16_t *gates, size_t gates_length,
+                     const uint16_t *sources, size_t sources_length,
+                     const uint16_t *drains, size_t drains_length,
+                     uint32_t answer[4]);
+
+/*
+   Reset: every state becomes X, the inputs' too. The old states are not
+   tested: any bytes are overwritten.
+   Answers: DONE, SIZE, KIND. Counts: 0 and 0.
+*/
+void twistdory_reset(const uint8_t *kinds, size_t kinds_length,
+                     uint8_t *states, size_t states_length,
+                     uint32_t answer[4]);
+
+/*
+   Step: takes one step.
+   Answers: DONE, SIZE, KIND, WIRE, STATE.
+   First count: the number of nodes whose state differs after the step (0 tells
+   that the network was settled). Second count: 0.
+   States after DONE: those after the step.
+*/
+void twistdory_step(const uint8_t *kinds, size_t kinds_length,
+                    uint8_t *states, size_t states_length,
+                    const uint8_t *types, size_t types_length,
+                    const uint16_t *gates, size_t gates_length,
+                    const uint16_t *sources, size_t sources_length,
+                    const uint16_t *drains, size_t drains_length,
+                    uint16_t *work, size_t work_length,
+                    uint32_t answer[4]);
+
+/*
+   Unit run: enters the changes, then takes steps until settled, at most
+   `limit` of them (0 stands for TWISTDORY_DEFAULT_LIMIT).
+   Answers: DONE, SIZE, LIMIT, KIND, WIRE, STATE, CHANGE, OSCILLATES.
+   First count: the least number of steps after which the network is settled;
+   after OSCILLATES the limit in force. A network that settles in exactly the
+   limit's steps is DONE. Second count: 0.
+   States after DONE: settled. After OSCILLATES: after exactly the limit's
+   steps; a further call goes on from there.
+*/
+void twistdory_unit_run(const uint8_t *kinds, size_t kinds_length,
+                        uint8_t *states, size_t states_length,
+                        const uint8_t *types, size_t types_length,
+                        const uint16_t *gates, size_t gates_length,
+                        const uint16_t *sources, size_t sources_length,
+                        const uint16_t *drains, size_t drains_length,
+                        const uint16_t *change_nodes, size_t change_nodes_length,
+                        const uint8_t *change_states, size_t change_states_length,
+                        uint32_t limit,
+                        uint16_t *work, size_t work_length,
+                        uint32_t answer[4]);
+
+/*
+   Ternary run: from a settled network, changed inputs first at X, then at
+   their new states, each time until settled.
+   Answers: DONE, SIZE, KIND, WIRE, STATE, CHANGE, START.
+   First and second count: the least number of steps that settles the first
+   and the second half.
+   States after DONE: settled, with the inputs at their new states.
+   An input may be changed to the state that it has: it is then not put at X.
+*/
+void twistdory_ternary_run(const uint8_t *kinds, size_t kinds_length,
+                           uint8_t *states, size_t states_length,
+                           const uint8_t *types, size_t types_length,
+                           const uint16_t *gates, size_t gates_length,
+                           const uint16_t *sources, size_t sources_length,
+                           const uint16_t *drains, size_t drains_length,
+                           const uint16_t *change_nodes, size_t change_nodes_length,
+                           const uint8_t *change_states, size_t change_states_length,
+                           uint16_t *work, size_t work_length,
+                           uint32_t answer[4]);
+
+/*
+   9  COSTS
+
+   Every call ends, whatever it is lent. A step fills at most three tables of
+   one cell a node, each by sweeps over all transistors until a sweep alters
+   nothing. Few sweeps are usual; a long chain of pass transistors listed from
+   its far end takes about one sweep a node. A unit run evaluates at most one
+   step more than its limit, a ternary run at most two more than twice the
+   number of nodes that are not inputs, and one for its start. The exact bound
+   and measured times are in docs/PERFORMANCE.md.
+*/
+
+#ifdef __cplusplus
+}
+#endif
+
+#endif

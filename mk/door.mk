@@ -1,0 +1,110 @@
+# The C side: the library for C programs, its examples, the outside check and the benchmark.
+# Included by the Makefile at the top, or used alone: make -f mk/door.mk outside
+#
+#   make lib          build/libtwistdory.a, proved and compiled from the crate $(LIB_CRATE)
+#   make examples     the header as C and C++, and the examples: compiled, run, compared
+#   make outside      the outside check, short: under three minutes
+#   make soak         the outside check, long; SEED, NETWORKS
+#   make faults       planted faults, each of which the outside check must catch
+#   make outside-self the outside check checked: against a stand-in for the library
+#   make bench        the library beside a plain C simulator, on real shapes
+#
+# LIBRARY names the archive in build/ that is checked. The stand-in is one: LIBRARY=libstandin.
+
+RATTLE_HOME ?= $(shell dirname $$(dirname $$(readlink -f $$(command -v rt || echo /opt/rattle/bin/rt))))
+LIB_CRATE ?= door
+LIBRARY ?= libtwistdory
+SEED ?= 1
+NETWORKS ?= 1000000
+
+export RATTLE_HOME
+
+DOOR_CFLAGS = -std=c11 -O2 -Wall -Wextra -Werror -Iinclude
+DOOR_HEADERS = $(wildcard include/*.h outside/*.h perf/*.h)
+DOOR_CC = cc=$$(sh mk/toolchain.sh cc)
+DOOR_RUN = run=$$(sh mk/toolchain.sh run)
+
+.PHONY: lib examples outside soak faults outside-self bench
+.PRECIOUS: build/%.o
+
+# ---- the library
+
+lib: build/libtwistdory.a
+
+DOOR_CRATES = $(wildcard crates.txt) $(shell find crates -name '*.rt' -o -name '*.antt' 2>/dev/null)
+
+build/libtwistdory.a: $(DOOR_CRATES)
+	@mkdir -p build
+	rt staticlib $(LIB_CRATE)
+	cp target/staticlib/lib$(LIB_CRATE).a $@
+
+# A stand-in over the plain C simulator: it tests the outside check, and nothing else uses it.
+build/libstandin.a: build/outside/standin.o build/perf/plain.o
+	@rm -f $@ && ar=$$(sh mk/toolchain.sh ar) && $$ar rcs $@ $^
+
+# ---- programs, for each library in a folder of its own
+
+build/%.o: %.c $(DOOR_HEADERS)
+	@mkdir -p $(@D)
+	@$(DOOR_CC) && $$cc $(DOOR_CFLAGS) -c -o $@ $<
+
+DOOR_PARTS = build/outside/door.o build/outside/lend.o build/outside/network.o build/outside/brute.o
+HOST_PARTS = build/outside/host.o build/outside/numbers.o build/outside/check_bench_set.o build/outside/check_refusals.o \
+	build/outside/check_full_size.o build/outside/check_small.o build/outside/check_random.o $(DOOR_PARTS)
+BENCH_SOURCES = perf/bench.c perf/shapes.c perf/plain.c
+
+build/%/host: $(HOST_PARTS) build/%.a
+	@mkdir -p $(@D)
+	@$(DOOR_CC) && $$cc -o $@ $^
+
+build/%/arrivals: build/outside/arrivals.o $(DOOR_PARTS) build/%.a
+	@mkdir -p $(@D)
+	@$(DOOR_CC) && $$cc -o $@ $^
+
+build/plain-check: build/perf/plain_check.o build/perf/plain.o build/outside/network.o build/outside/brute.o
+	@$(DOOR_CC) && $$cc -o $@ $^
+
+build/verilog-writer: build/perf/verilog.o build/perf/shapes.o build/perf/plain.o
+	@$(DOOR_CC) && $$cc -o $@ $^
+
+# At -O3, the level at which the library is compiled.
+build/%/bench: $(BENCH_SOURCES) $(DOOR_HEADERS) build/%.a
+	@mkdir -p $(@D)
+	@$(DOOR_CC) && $$cc $(DOOR_CFLAGS) -O3 -o $@ $(BENCH_SOURCES) build/$*.a
+
+# ---- checks
+
+examples: build/$(LIBRARY).a
+	@sh examples/check.sh build/$(LIBRARY).a
+
+# Under the emulator everything takes some twenty times as long: fewer networks there.
+outside: build/$(LIBRARY)/host build/$(LIBRARY)/arrivals build/plain-check
+	@$(DOOR_RUN) && \
+	$$run build/plain-check && \
+	if [ -n "$$run" ]; then part=1000 networks=4000 arrivals=20000; \
+	else part=10 networks=60000 arrivals=400000; fi; \
+	$$run build/$(LIBRARY)/host --seed $(SEED) --networks $$networks --small-part $$part && \
+	$$run build/$(LIBRARY)/arrivals --seed $(SEED) --networks $$arrivals
+
+soak: build/$(LIBRARY)/host build/$(LIBRARY)/arrivals
+	@$(DOOR_RUN) && \
+	nice $$run build/$(LIBRARY)/host --seed $(SEED) --networks $(NETWORKS) --small-part 1 && \
+	nice $$run build/$(LIBRARY)/arrivals --seed $(SEED) --networks $(NETWORKS)
+
+faults: build/$(LIBRARY).a
+	@nice sh outside/faults/plant.sh build/$(LIBRARY).a
+
+outside-self: build/libstandin/host build/libstandin/arrivals build/plain-check
+	@$(DOOR_RUN) && \
+	$$run build/plain-check && \
+	$$run build/libstandin/host --seed $(SEED) --networks 2000 --small-part 1000 && \
+	$$run build/libstandin/arrivals --seed $(SEED) && \
+	sh outside/faults/plant.sh build/libstandin.a quick
+
+# ---- the benchmark
+
+bench: build/$(LIBRARY)/bench build/verilog-writer
+	@$(DOOR_CC) && $(DOOR_RUN) && \
+	echo "plain C compiled by $$($$cc --version | head -1) at -O3; library: build/$(LIBRARY).a" && \
+	$$run build/$(LIBRARY)/bench --seed $(SEED) $${run:+--emulated}
+	@sh perf/verilog.sh build/verilog-writer

@@ -1,0 +1,93 @@
+#!/bin/sh
+# Plants each fault of list.txt in a copy of its file, builds the outside check with it and shows
+# which checks catch it.
+#
+#   plant.sh LIBRARY [quick]
+#
+# LIBRARY is the archive on which the comparator's and the shim's faults are tried. With `quick` a
+# fault is left as soon as one check has caught it. Exit status: 0 if every fault is caught.
+set -u
+cd "$(dirname "$0")/../.." || exit 2
+library=$1 quick=${2:-}
+here=outside/faults
+cc=$(sh mk/toolchain.sh cc) && run=$(sh mk/toolchain.sh run) || exit 2
+flags='-std=c11 -O2 -Wall -Wextra -Werror -Iinclude -Iperf -Ioutside'
+room=$(mktemp -d) || exit 2
+trap 'rm -rf "$room"' EXIT
+
+# build NAME SOURCE: compiles a file of the repository, or its copy with the fault in it.
+build() { # shellcheck disable=SC2086
+    $cc $flags -c -o "$room/$1.o" "$2"
+}
+
+host='host door lend network brute check_bench_set check_refusals check_full_size check_small check_random'
+for part in $host arrivals standin; do build "$part" "outside/$part.c" || exit 2; done
+build plain perf/plain.c || exit 2
+build shim $here/shim.c || exit 2
+
+objects() { for part in "$@"; do printf '%s/%s.o ' "$room" "$part"; done; }
+
+# link the two programs with or without the shim, over the stand-in or the library
+link() { # WITH...
+    # shellcheck disable=SC2046
+    $cc -o "$room/host" $(objects $host) "$@" \
+        && $cc -o "$room/arrivals" $(objects arrivals door lend network brute) "$@"
+}
+
+# says which checks end with status 1
+caught_by() {
+    for check in bench random refusals full small arrivals; do
+        case $check in
+        arrivals) words="--networks 20000 --enough 1" ;;
+        *) words="$check --networks 1500 --small-part 3000 --patience 5 --enough 1" ;;
+        esac
+        program=$room/host
+        [ $check = arrivals ] && program=$room/arrivals
+        # shellcheck disable=SC2086
+        $run "$program" $words >"$room/said" 2>&1
+        status=$?
+        if [ $status -eq 1 ]; then
+            kind=$(sed -n 's/^\(DIFFERENCE\|TRAP\|STRAY WRITE\).*/\1/p' "$room/said" | sort -u | tr '\n' ',')
+            printf '%s (%s) ' "$check" "$(printf '%s' "${kind%,}" | tr 'A-Z' 'a-z' | sed 's/,/, /g')"
+            [ -n "$quick" ] && break
+        elif [ $status -ne 0 ]; then
+            printf '%s (ended with status %s) ' "$check" "$status"
+        fi
+    done
+}
+
+planted=0 caught=0
+while IFS= read -r name; do
+    case $name in '' | '#'*) continue ;; esac
+    IFS= read -r file
+    IFS= read -r edit
+    planted=$((planted + 1))
+    sed -e "$edit" "$file" >"$room/fault.c"
+    if cmp -s "$file" "$room/fault.c"; then
+        echo "NOT PLANTED: $name (the edit alters nothing in $file)"
+        continue
+    fi
+    sed -i "s|\"../perf/plain.h\"|\"plain.h\"|" "$room/fault.c"
+    part=$(basename "$file" .c)
+    cp "$room/$part.o" "$room/sound.o"
+    # shellcheck disable=SC2086
+    if ! $cc $flags -Wno-error -w -c -o "$room/$part.o" "$room/fault.c"; then
+        echo "NOT BUILT: $name"
+        cp "$room/sound.o" "$room/$part.o"
+        continue
+    fi
+    case $part in
+    plain | standin) link "$room/standin.o" "$room/plain.o" ;;
+    brute) link "$library" ;;
+    shim) link -Wl,--wrap=twistdory_step,--wrap=twistdory_unit_run,--wrap=twistdory_ternary_run \
+        "$room/shim.o" "$library" ;;
+    esac || exit 2
+    by=$(caught_by)
+    case $by in
+    *difference* | *trap* | *stray*) caught=$((caught + 1)) && echo "caught: $name: $by" ;;
+    *) echo "NOT CAUGHT: $name ${by:+($by)}" ;;
+    esac
+    cp "$room/sound.o" "$room/$part.o"
+done <$here/list.txt
+echo "faults: $caught of $planted caught"
+[ "$caught" -eq "$planted" ]
