@@ -3,13 +3,13 @@
 use Prim.Native.Nat.{ℕ}
 use mathlib.Core.Path.{_≡_, _∙_, sym}
 use mathlib.Core.List.{List}
-use Rattle.model.specs.Entries.{Outcome, Leaves}
-use Rattle.model.specs.declared.Answer.{Answer}
 use borrow.Fn.Kinds.{endedOf}
 use borrow.Fn.World.{ArgsD, ResD}
 use contract.Lifetimes.{Lfts}
 use denote.Ref.{now}
 use denote.Triple.Clauses.{AtExit}
+use Rattle.model.specs.Entries.{Outcome, Leaves}
+use Rattle.model.specs.declared.Answer.{Answer}
 use Rattle.twistdory.proofs.check
 use Rattle.twistdory.proofs.check.Kinds as check-kinds
 use Rattle.twistdory.proofs.check.Reads as check-reads
@@ -35,7 +35,7 @@ check-determined κs lent a b x y p q = p ∙ sym q
 
 pub reset-determined : (κs : Lfts 2) (lent : ArgsD reset.signature κs) (a b : ResD reset.signature κs) (x y : AtExit (endedOf 2 reset-kinds.ps reset-kinds.r) κs)
     → reset-reads.Post κs lent a x → reset-reads.Post κs lent b y → (a ≡ b) × (now (x .1 .0) ≡ now (y .1 .0))
-reset-determined κs lent a b x y p q = (p .0 ∙ sym (q .0), p .1 ∙ sym (q .1))
+reset-determined κs lent a b x y p q = let r = both p q in (r .0, r .1)
 
 pub step-determined : (κs : Lfts 7) (lent : ArgsD step.signature κs) (a b : ResD step.signature κs) (x y : AtExit (endedOf 7 step-kinds.ps step-kinds.r) κs)
     → step-reads.Post κs lent a x → step-reads.Post κs lent b y → (a ≡ b) × (now (x .1 .0) ≡ now (y .1 .0)) × (now (x .1 .1 .1 .1 .1 .1 .0) ≡ now (y .1 .1 .1 .1 .1 .1 .0))

@@ -5,6 +5,7 @@ mod accepted;
 use model::Answer;
 use model::Verdict;
 ghost use mathlib.Core.Path.{_≡_};
+ghost use mathlib.Core.List.{[]};
 ghost use lib.ListN.{length};
 ghost use Rattle.model.specs.Places.{tab};
 ghost use Rattle.model.specs.Entries.{checkAnswer, resetOutcome, stepOutcome, unitOutcome, ternaryOutcome, Leaves};
@@ -44,8 +45,7 @@ fn fill_x(states: &mut [u8])
 
 // Resets the states of a network: every state becomes X, whatever it was.
 pub fn reset(kinds: &[u8], states: &mut [u8]) -> Answer
-    ensures answers { λ r. ⌜ r ≡ resetOutcome (now (kinds .entry)) (now (states .entry)) .answer ⌝ }
-    ensures leaves { λ r. ⌜ now (states .exit) ≡ resetOutcome (now (kinds .entry)) (now (states .entry)) .states ⌝ }
+    ensures { λ r. ⌜ Leaves (resetOutcome (now (kinds .entry)) (now (states .entry))) r (now (states .exit)) [] ⌝ }
 {
     match tables::judge_reset(kinds, states) {
         Verdict::Refused(a) => a,

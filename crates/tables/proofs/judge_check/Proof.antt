@@ -16,18 +16,21 @@ returns : tie.Need-returns
 unfolding checkRules
 returns c =
     let a = c .before .before .before .before .before .before .before .args in
-    size-broken (checkSizes (netOf (a .kinds .now) (a .types .now) (a .gates .now) (a .sources .now) (a .drains .now))) (kindRule (a .kinds .now) ∷ wireRule (netOf (a .kinds .now) (a .types .now) (a .gates .now) (a .sources .now) (a .drains .now)) ∷ []) _ (c .before .wrong-check-sizes .ensures) (c .if1 .taken)
+    let net = netOf (a .kinds .now) (a .types .now) (a .gates .now) (a .sources .now) (a .drains .now) in
+    size-broken (checkSizes net) (kindRule (a .kinds .now) ∷ wireRule net ∷ []) _ (c .before .wrong-check-sizes .ensures) (c .if1 .taken)
 
 judge-tables-requires : tie.Need-judge-tables-requires
 judge-tables-requires c κs =
     let a = c .before .before .before .before .before .before .before .args in
-    check-sized (netOf (a .kinds .now) (a .types .now) (a .gates .now) (a .sources .now) (a .drains .now)) (sym (c .before .wrong-check-sizes .ensures) ∙ c .if1 .left)
+    let net = netOf (a .kinds .now) (a .types .now) (a .gates .now) (a .sources .now) (a .drains .now) in
+    check-sized net (sym (c .before .wrong-check-sizes .ensures) ∙ c .if1 .left)
 
 returns-2 : tie.Need-returns-2
 unfolding checkRules
 returns-2 c =
     let a = c .before .before .before .before .before .before .before .before .args in
-    size-kept (checkSizes (netOf (a .kinds .now) (a .types .now) (a .gates .now) (a .sources .now) (a .drains .now))) (kindRule (a .kinds .now) ∷ wireRule (netOf (a .kinds .now) (a .types .now) (a .gates .now) (a .sources .now) (a .drains .now)) ∷ []) _ (c .before .before .wrong-check-sizes .ensures) _ (c .before .if1 .left) (c .judge-tables .ensures)
+    let net = netOf (a .kinds .now) (a .types .now) (a .gates .now) (a .sources .now) (a .drains .now) in
+    size-kept (checkSizes net) (kindRule (a .kinds .now) ∷ wireRule net ∷ []) _ (c .before .before .wrong-check-sizes .ensures) _ (c .before .if1 .left) (c .judge-tables .ensures)
 
 pub judge-check-spec : {M : Type 1} → statement M
 judge-check-spec =

@@ -19,7 +19,8 @@ enum-told-2 c = search needs
 returns : tie.Need-returns
 returns c =
     let a = c .before .before .before .before .before .before .before .before .before .args in
-    refused-first (kindRule (a .kinds .now) ∷ wireRule (netOf (a .kinds .now) (a .types .now) (a .gates .now) (a .sources .now) (a .drains .now)) ∷ []) (stateRule (a .states .now) ∷ []) _ (c .before .before .judge-tables .ensures) _ (c .enum-told2 .given .1)
+    let net = netOf (a .kinds .now) (a .types .now) (a .gates .now) (a .sources .now) (a .drains .now) in
+    refused-first (kindRule (a .kinds .now) ∷ wireRule net ∷ []) (stateRule (a .states .now) ∷ []) _ (c .before .before .judge-tables .ensures) _ (c .enum-told2 .given .1)
 
 first-above-requires : tie.Need-first-above-requires
 first-above-requires c κs = search needs
@@ -30,14 +31,18 @@ cast-t12 c = search needs
 returns-2 : tie.Need-returns-2
 returns-2 c =
     let a = c .before .before .before .before .before .before .before .before .before .before .before .args in
-    accepted-first (kindRule (a .kinds .now) ∷ wireRule (netOf (a .kinds .now) (a .types .now) (a .gates .now) (a .sources .now) (a .drains .now)) ∷ []) (stateRule (a .states .now) ∷ []) _ (c .before .before .before .before .judge-tables .ensures) _ (c .before .before .enum-told .given .1)
-    (rule-broken (stateRule (a .states .now)) _ (c .before .first-above .ensures) (c .if1 .taken))
+    let net = netOf (a .kinds .now) (a .types .now) (a .gates .now) (a .sources .now) (a .drains .now) in
+    let s = a .states .now in
+    accepted-first (kindRule (a .kinds .now) ∷ wireRule net ∷ []) (stateRule s ∷ []) _ (c .before .before .before .before .judge-tables .ensures) _ (c .before .before .enum-told .given .1)
+    (rule-broken (stateRule s) _ (c .before .first-above .ensures) (c .if1 .taken))
 
 returns-3 : tie.Need-returns-3
 returns-3 c =
     let a = c .before .before .before .before .before .before .before .before .before .before .before .args in
-    accepted-first (kindRule (a .kinds .now) ∷ wireRule (netOf (a .kinds .now) (a .types .now) (a .gates .now) (a .sources .now) (a .drains .now)) ∷ []) (stateRule (a .states .now) ∷ []) _ (c .before .before .before .before .judge-tables .ensures) _ (c .before .before .enum-told .given .1)
-    (rule-kept (stateRule (a .states .now)) _ (c .before .first-above .ensures) (c .if1 .left))
+    let net = netOf (a .kinds .now) (a .types .now) (a .gates .now) (a .sources .now) (a .drains .now) in
+    let s = a .states .now in
+    accepted-first (kindRule (a .kinds .now) ∷ wireRule net ∷ []) (stateRule s ∷ []) _ (c .before .before .before .before .judge-tables .ensures) _ (c .before .before .enum-told .given .1)
+    (rule-kept (stateRule s) _ (c .before .first-above .ensures) (c .if1 .left))
 
 pub judge-contents-spec : {M : Type 1} → statement M
 judge-contents-spec =

@@ -21,7 +21,9 @@ returns : tie.Need-returns
 unfolding runRules
 returns c =
     let a = c .before .before .before .before .before .before .before .before .before .before .before .args in
-    refused-first (kindRule (a .kinds .now) ∷ wireRule (netOf (a .kinds .now) (a .types .now) (a .gates .now) (a .sources .now) (a .drains .now)) ∷ stateRule (a .states .now) ∷ []) (changeRule (netOf (a .kinds .now) (a .types .now) (a .gates .now) (a .sources .now) (a .drains .now)) (changesOf (a .named .now) (a .values .now)) ∷ []) _ (c .before .before .judge-contents .ensures) _ (c .enum-told2 .given .1)
+    let net = netOf (a .kinds .now) (a .types .now) (a .gates .now) (a .sources .now) (a .drains .now) in
+    let ch = changesOf (a .named .now) (a .values .now) in
+    refused-first (kindRule (a .kinds .now) ∷ wireRule net ∷ stateRule (a .states .now) ∷ []) (changeRule net ch ∷ []) _ (c .before .before .judge-contents .ensures) _ (c .enum-told2 .given .1)
 
 first-wrong-change-requires : tie.Need-first-wrong-change-requires
 first-wrong-change-requires c κs = search needs
@@ -33,15 +35,19 @@ returns-2 : tie.Need-returns-2
 unfolding runRules changeTests
 returns-2 c =
     let a = c .before .before .before .before .before .before .before .before .before .before .before .before .before .args in
-    accepted-first (kindRule (a .kinds .now) ∷ wireRule (netOf (a .kinds .now) (a .types .now) (a .gates .now) (a .sources .now) (a .drains .now)) ∷ stateRule (a .states .now) ∷ []) (changeRule (netOf (a .kinds .now) (a .types .now) (a .gates .now) (a .sources .now) (a .drains .now)) (changesOf (a .named .now) (a .values .now)) ∷ []) _ (c .before .before .before .before .judge-contents .ensures) _ (c .before .before .enum-told .given .1)
-    (rule-broken (changeRule (netOf (a .kinds .now) (a .types .now) (a .gates .now) (a .sources .now) (a .drains .now)) (changesOf (a .named .now) (a .values .now))) _ (c .before .first-wrong-change .ensures) (c .if1 .taken))
+    let net = netOf (a .kinds .now) (a .types .now) (a .gates .now) (a .sources .now) (a .drains .now) in
+    let ch = changesOf (a .named .now) (a .values .now) in
+    accepted-first (kindRule (a .kinds .now) ∷ wireRule net ∷ stateRule (a .states .now) ∷ []) (changeRule net ch ∷ []) _ (c .before .before .before .before .judge-contents .ensures) _ (c .before .before .enum-told .given .1)
+    (rule-broken (changeRule net ch) _ (c .before .first-wrong-change .ensures) (c .if1 .taken))
 
 returns-3 : tie.Need-returns-3
 unfolding runRules changeTests
 returns-3 c =
     let a = c .before .before .before .before .before .before .before .before .before .before .before .before .before .args in
-    accepted-first (kindRule (a .kinds .now) ∷ wireRule (netOf (a .kinds .now) (a .types .now) (a .gates .now) (a .sources .now) (a .drains .now)) ∷ stateRule (a .states .now) ∷ []) (changeRule (netOf (a .kinds .now) (a .types .now) (a .gates .now) (a .sources .now) (a .drains .now)) (changesOf (a .named .now) (a .values .now)) ∷ []) _ (c .before .before .before .before .judge-contents .ensures) _ (c .before .before .enum-told .given .1)
-    (rule-kept (changeRule (netOf (a .kinds .now) (a .types .now) (a .gates .now) (a .sources .now) (a .drains .now)) (changesOf (a .named .now) (a .values .now))) _ (c .before .first-wrong-change .ensures) (c .if1 .left))
+    let net = netOf (a .kinds .now) (a .types .now) (a .gates .now) (a .sources .now) (a .drains .now) in
+    let ch = changesOf (a .named .now) (a .values .now) in
+    accepted-first (kindRule (a .kinds .now) ∷ wireRule net ∷ stateRule (a .states .now) ∷ []) (changeRule net ch ∷ []) _ (c .before .before .before .before .judge-contents .ensures) _ (c .before .before .enum-told .given .1)
+    (rule-kept (changeRule net ch) _ (c .before .first-wrong-change .ensures) (c .if1 .left))
 
 pub judge-run-spec : {M : Type 1} → statement M
 judge-run-spec =

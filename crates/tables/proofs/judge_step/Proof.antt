@@ -16,19 +16,24 @@ returns : tie.Need-returns
 unfolding stepRules
 returns c =
     let a = c .before .before .before .before .before .before .before .before .before .args in
-    size-broken (stepSizes (netOf (a .kinds .now) (a .types .now) (a .gates .now) (a .sources .now) (a .drains .now)) (a .states .now) (a .work .now)) (kindRule (a .kinds .now) ∷ wireRule (netOf (a .kinds .now) (a .types .now) (a .gates .now) (a .sources .now) (a .drains .now)) ∷ stateRule (a .states .now) ∷ []) _ (c .before .wrong-step-sizes .ensures) (c .if1 .taken)
+    let net = netOf (a .kinds .now) (a .types .now) (a .gates .now) (a .sources .now) (a .drains .now) in
+    let s = a .states .now in
+    size-broken (stepSizes net s (a .work .now)) (kindRule (a .kinds .now) ∷ wireRule net ∷ stateRule s ∷ []) _ (c .before .wrong-step-sizes .ensures) (c .if1 .taken)
 
 judge-contents-requires : tie.Need-judge-contents-requires
 judge-contents-requires c κs =
     let a = c .before .before .before .before .before .before .before .before .before .args in
-    let f = step-sized (netOf (a .kinds .now) (a .types .now) (a .gates .now) (a .sources .now) (a .drains .now)) (a .states .now) (a .work .now) (sym (c .before .wrong-step-sizes .ensures) ∙ c .if1 .left) in
+    let net = netOf (a .kinds .now) (a .types .now) (a .gates .now) (a .sources .now) (a .drains .now) in
+    let f = step-sized net (a .states .now) (a .work .now) (sym (c .before .wrong-step-sizes .ensures) ∙ c .if1 .left) in
     (f .0, f .1)
 
 returns-2 : tie.Need-returns-2
 unfolding stepRules
 returns-2 c =
     let a = c .before .before .before .before .before .before .before .before .before .before .args in
-    size-kept (stepSizes (netOf (a .kinds .now) (a .types .now) (a .gates .now) (a .sources .now) (a .drains .now)) (a .states .now) (a .work .now)) (kindRule (a .kinds .now) ∷ wireRule (netOf (a .kinds .now) (a .types .now) (a .gates .now) (a .sources .now) (a .drains .now)) ∷ stateRule (a .states .now) ∷ []) _ (c .before .before .wrong-step-sizes .ensures) _ (c .before .if1 .left) (c .judge-contents .ensures)
+    let net = netOf (a .kinds .now) (a .types .now) (a .gates .now) (a .sources .now) (a .drains .now) in
+    let s = a .states .now in
+    size-kept (stepSizes net s (a .work .now)) (kindRule (a .kinds .now) ∷ wireRule net ∷ stateRule s ∷ []) _ (c .before .before .wrong-step-sizes .ensures) _ (c .before .if1 .left) (c .judge-contents .ensures)
 
 pub judge-step-spec : {M : Type 1} → statement M
 judge-step-spec =

@@ -16,20 +16,29 @@ returns : tie.Need-returns
 unfolding ternaryRules
 returns c =
     let a = c .before .before .before .before .before .before .before .before .before .before .before .args in
-    size-broken (runSizes (netOf (a .kinds .now) (a .types .now) (a .gates .now) (a .sources .now) (a .drains .now)) (a .states .now) (changesOf (a .named .now) (a .values .now)) (a .work .now)) (runRules (netOf (a .kinds .now) (a .types .now) (a .gates .now) (a .sources .now) (a .drains .now)) (a .states .now) (changesOf (a .named .now) (a .values .now))) _ (c .before .wrong-run-sizes .ensures) (c .if1 .taken)
+    let net = netOf (a .kinds .now) (a .types .now) (a .gates .now) (a .sources .now) (a .drains .now) in
+    let ch = changesOf (a .named .now) (a .values .now) in
+    let s = a .states .now in
+    size-broken (runSizes net s ch (a .work .now)) (runRules net s ch) _ (c .before .wrong-run-sizes .ensures) (c .if1 .taken)
 
 judge-run-requires : tie.Need-judge-run-requires
 judge-run-requires c κs =
     let a = c .before .before .before .before .before .before .before .before .before .before .before .args in
-    let f = run-sized (netOf (a .kinds .now) (a .types .now) (a .gates .now) (a .sources .now) (a .drains .now)) (a .states .now) (changesOf (a .named .now) (a .values .now)) (a .work .now) (sym (c .before .wrong-run-sizes .ensures) ∙ c .if1 .left) in
-    let g = step-sized (netOf (a .kinds .now) (a .types .now) (a .gates .now) (a .sources .now) (a .drains .now)) (a .states .now) (a .work .now) (f .0) in
+    let net = netOf (a .kinds .now) (a .types .now) (a .gates .now) (a .sources .now) (a .drains .now) in
+    let ch = changesOf (a .named .now) (a .values .now) in
+    let s = a .states .now in
+    let f = run-sized net s ch (a .work .now) (sym (c .before .wrong-run-sizes .ensures) ∙ c .if1 .left) in
+    let g = step-sized net s (a .work .now) (f .0) in
     (g .0, g .1, f .1)
 
 returns-2 : tie.Need-returns-2
 unfolding ternaryRules
 returns-2 c =
     let a = c .before .before .before .before .before .before .before .before .before .before .before .before .args in
-    size-kept (runSizes (netOf (a .kinds .now) (a .types .now) (a .gates .now) (a .sources .now) (a .drains .now)) (a .states .now) (changesOf (a .named .now) (a .values .now)) (a .work .now)) (runRules (netOf (a .kinds .now) (a .types .now) (a .gates .now) (a .sources .now) (a .drains .now)) (a .states .now) (changesOf (a .named .now) (a .values .now))) _ (c .before .before .wrong-run-sizes .ensures) _ (c .before .if1 .left) (c .judge-run .ensures)
+    let net = netOf (a .kinds .now) (a .types .now) (a .gates .now) (a .sources .now) (a .drains .now) in
+    let ch = changesOf (a .named .now) (a .values .now) in
+    let s = a .states .now in
+    size-kept (runSizes net s ch (a .work .now)) (runRules net s ch) _ (c .before .before .wrong-run-sizes .ensures) _ (c .before .if1 .left) (c .judge-run .ensures)
 
 pub judge-ternary-spec : {M : Type 1} → statement M
 judge-ternary-spec =

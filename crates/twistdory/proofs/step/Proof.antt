@@ -1,10 +1,7 @@
 -- `step` meets its contract: the verdict's refusal with nothing written, else what a step leaves. Assumes nothing.
 use mathlib.Core.Path.{sym, _∙_}
 use borrow.Author.Needs.{needs}
-use Rattle.model.specs.Net.{netOf}
-use Rattle.model.specs.Rules.{stepRules}
-use Rattle.model.specs.Entries.{stepOutcome}
-use Rattle.twistdory.proofs.Given.{refused-leaves}
+use Rattle.twistdory.proofs.Given.{step-refused}
 use Rattle.twistdory.proofs.step.Statement.{statement}
 use Rattle.twistdory.proofs.step.Tie as tie
 
@@ -27,10 +24,7 @@ same-length-2 : tie.Need-same-length-2
 same-length-2 c = search needs
 
 returns : tie.Need-returns
-unfolding stepOutcome
-returns c =
-    let a = c .before .before .before .before .before .before .before .before .before .before .before .before .before .args in
-    refused-leaves (stepRules (netOf (a .kinds .now) (a .types .now) (a .gates .now) (a .sources .now) (a .drains .now)) (a .states .now) (a .work .now)) (a .states .now) (a .work .now) _ _ (c .before .before .before .judge-step .ensures) _ (c .before .a .given .1)
+returns c = step-refused _ _ (c .before .a .given .1) _ _ _ (c .before .before .before .judge-step .ensures)
 
 same-length-3 : tie.Need-same-length-3
 same-length-3 c = search needs

@@ -1,11 +1,7 @@
 -- `ternary_run` meets its contract: the verdict's refusal with nothing written, else what a ternary run leaves. Assumes nothing.
 use mathlib.Core.Path.{sym, _∙_}
 use borrow.Author.Needs.{needs}
-use Rattle.model.specs.Net.{netOf}
-use Rattle.model.specs.Run.{changesOf}
-use Rattle.model.specs.Rules.{ternaryRules}
-use Rattle.model.specs.Entries.{ternaryOutcome}
-use Rattle.twistdory.proofs.Given.{refused-leaves}
+use Rattle.twistdory.proofs.Given.{ternary-refused}
 use Rattle.twistdory.proofs.ternary_run.Statement.{statement}
 use Rattle.twistdory.proofs.ternary_run.Tie as tie
 
@@ -28,10 +24,7 @@ same-length-2 : tie.Need-same-length-2
 same-length-2 c = search needs
 
 returns : tie.Need-returns
-unfolding ternaryOutcome
-returns c =
-    let a = c .before .before .before .before .before .before .before .before .before .before .before .before .before .before .before .args in
-    refused-leaves (ternaryRules (netOf (a .kinds .now) (a .types .now) (a .gates .now) (a .sources .now) (a .drains .now)) (a .states .now) (changesOf (a .named .now) (a .values .now)) (a .work .now)) (a .states .now) (a .work .now) _ _ (c .before .before .before .judge-ternary .ensures) _ (c .before .a .given .1)
+returns c = ternary-refused _ _ (c .before .a .given .1) _ _ _ _ (c .before .before .before .judge-ternary .ensures)
 
 same-length-3 : tie.Need-same-length-3
 same-length-3 c = search needs

@@ -1,11 +1,7 @@
 -- `unit_run` meets its contract: the verdict's refusal with nothing written, else what a unit run leaves. Assumes nothing.
 use mathlib.Core.Path.{sym, _∙_}
 use borrow.Author.Needs.{needs}
-use Rattle.model.specs.Net.{netOf}
-use Rattle.model.specs.Run.{changesOf}
-use Rattle.model.specs.Rules.{unitRules}
-use Rattle.model.specs.Entries.{unitOutcome}
-use Rattle.twistdory.proofs.Given.{refused-leaves}
+use Rattle.twistdory.proofs.Given.{unit-refused}
 use Rattle.twistdory.proofs.unit_run.Statement.{statement}
 use Rattle.twistdory.proofs.unit_run.Tie as tie
 
@@ -28,10 +24,7 @@ same-length-2 : tie.Need-same-length-2
 same-length-2 c = search needs
 
 returns : tie.Need-returns
-unfolding unitOutcome
-returns c =
-    let a = c .before .before .before .before .before .before .before .before .before .before .before .before .before .before .before .args in
-    refused-leaves (unitRules (netOf (a .kinds .now) (a .types .now) (a .gates .now) (a .sources .now) (a .drains .now)) (a .states .now) (changesOf (a .named .now) (a .values .now)) (a .limit) (a .work .now)) (a .states .now) (a .work .now) _ _ (c .before .before .before .judge-unit .ensures) _ (c .before .a .given .1)
+returns c = unit-refused _ _ (c .before .a .given .1) _ _ _ _ _ (c .before .before .before .judge-unit .ensures)
 
 same-length-3 : tie.Need-same-length-3
 same-length-3 c = search needs

@@ -31,7 +31,8 @@ wrong-wire-requires c κs = search needs
 returns : tie.Need-returns Inv-loop μ-loop
 returns c =
     let a = c .before .before .before .before .before .before .before .before .before .args in
-    first-at (length (a .types .now)) (Wrong (netOf (a .kinds .now) (a .types .now) (a .gates .now) (a .sources .now) (a .drains .now))) _ (c .before .before .loop-test .taken) (sym (c .before .wrong-wire .ensures) ∙ c .if1 .taken) (c .before .before .before .loop .inv .1)
+    let net = netOf (a .kinds .now) (a .types .now) (a .gates .now) (a .sources .now) (a .drains .now) in
+    first-at (length (a .types .now)) (Wrong net) _ (c .before .before .loop-test .taken) (sym (c .before .wrong-wire .ensures) ∙ c .if1 .taken) (c .before .before .before .loop .inv .1)
 
 add-t : tie.Need-add-t Inv-loop μ-loop
 add-t c = search needs
@@ -42,12 +43,14 @@ loop-less c = search needs
 loop-again : tie.Need-loop-again Inv-loop μ-loop
 loop-again c =
     let a = c .before .before .before .before .before .before .before .before .before .args in
-    (omega arith, below-more (λ (q : ℕ). Wrong (netOf (a .kinds .now) (a .types .now) (a .gates .now) (a .sources .now) (a .drains .now)) q ≡ false) _ (c .before .before .before .loop .inv .1) (sym (c .before .wrong-wire .ensures) ∙ c .if1 .left))
+    let net = netOf (a .kinds .now) (a .types .now) (a .gates .now) (a .sources .now) (a .drains .now) in
+    (omega arith, below-more (λ (q : ℕ). Wrong net q ≡ false) _ (c .before .before .before .loop .inv .1) (sym (c .before .wrong-wire .ensures) ∙ c .if1 .left))
 
 returns-2 : tie.Need-returns-2 Inv-loop μ-loop
 returns-2 c =
     let a = c .before .before .before .before .before .before .before .args in
-    first-none (length (a .types .now)) (Wrong (netOf (a .kinds .now) (a .types .now) (a .gates .now) (a .sources .now) (a .drains .now))) _ (c .before .loop .inv .0) (c .loop-test .left) (c .before .loop .inv .1)
+    let net = netOf (a .kinds .now) (a .types .now) (a .gates .now) (a .sources .now) (a .drains .now) in
+    first-none (length (a .types .now)) (Wrong net) _ (c .before .loop .inv .0) (c .loop-test .left) (c .before .loop .inv .1)
 
 pub first-wrong-wire-spec : {M : Type 1} → statement M
 first-wrong-wire-spec =

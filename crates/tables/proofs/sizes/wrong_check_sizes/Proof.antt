@@ -13,7 +13,8 @@ returns : tie.Need-returns
 unfolding checkSizes
 returns c =
     let a = c .before .before .before .before .before .before .before .args in
-    passed-first (nodeSizes (a .kinds .now)) (wireSizes (netOf (a .kinds .now) (a .types .now) (a .gates .now) (a .sources .now) (a .drains .now))) _ (c .before .wrong-node-sizes .ensures) (c .if1 .taken)
+    let net = netOf (a .kinds .now) (a .types .now) (a .gates .now) (a .sources .now) (a .drains .now) in
+    passed-first (nodeSizes (a .kinds .now)) (wireSizes net) _ (c .before .wrong-node-sizes .ensures) (c .if1 .taken)
 
 wrong-wire-sizes-requires : tie.Need-wrong-wire-sizes-requires
 wrong-wire-sizes-requires c κs = search needs
@@ -22,7 +23,8 @@ returns-2 : tie.Need-returns-2
 unfolding checkSizes
 returns-2 c =
     let a = c .before .before .before .before .before .before .before .before .args in
-    failed-first (nodeSizes (a .kinds .now)) (wireSizes (netOf (a .kinds .now) (a .types .now) (a .gates .now) (a .sources .now) (a .drains .now))) _ (c .before .before .wrong-node-sizes .ensures) _ (c .before .if1 .left) (c .wrong-wire-sizes .ensures)
+    let net = netOf (a .kinds .now) (a .types .now) (a .gates .now) (a .sources .now) (a .drains .now) in
+    failed-first (nodeSizes (a .kinds .now)) (wireSizes net) _ (c .before .before .wrong-node-sizes .ensures) _ (c .before .if1 .left) (c .wrong-wire-sizes .ensures)
 
 pub wrong-check-sizes-spec : {M : Type 1} → statement M
 wrong-check-sizes-spec =

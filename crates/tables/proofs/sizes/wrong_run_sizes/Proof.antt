@@ -14,7 +14,9 @@ returns : tie.Need-returns
 unfolding runSizes
 returns c =
     let a = c .before .before .before .before .before .before .before .before .before .before .before .args in
-    passed-first (stepSizes (netOf (a .kinds .now) (a .types .now) (a .gates .now) (a .sources .now) (a .drains .now)) (a .states .now) (a .work .now)) (changeSizes (changesOf (a .named .now) (a .values .now))) _ (c .before .wrong-step-sizes .ensures) (c .if1 .taken)
+    let net = netOf (a .kinds .now) (a .types .now) (a .gates .now) (a .sources .now) (a .drains .now) in
+    let ch = changesOf (a .named .now) (a .values .now) in
+    passed-first (stepSizes net (a .states .now) (a .work .now)) (changeSizes ch) _ (c .before .wrong-step-sizes .ensures) (c .if1 .taken)
 
 wrong-change-sizes-requires : tie.Need-wrong-change-sizes-requires
 wrong-change-sizes-requires c κs = search needs
@@ -23,7 +25,9 @@ returns-2 : tie.Need-returns-2
 unfolding runSizes
 returns-2 c =
     let a = c .before .before .before .before .before .before .before .before .before .before .before .before .args in
-    failed-first (stepSizes (netOf (a .kinds .now) (a .types .now) (a .gates .now) (a .sources .now) (a .drains .now)) (a .states .now) (a .work .now)) (changeSizes (changesOf (a .named .now) (a .values .now))) _ (c .before .before .wrong-step-sizes .ensures) _ (c .before .if1 .left) (c .wrong-change-sizes .ensures)
+    let net = netOf (a .kinds .now) (a .types .now) (a .gates .now) (a .sources .now) (a .drains .now) in
+    let ch = changesOf (a .named .now) (a .values .now) in
+    failed-first (stepSizes net (a .states .now) (a .work .now)) (changeSizes ch) _ (c .before .before .wrong-step-sizes .ensures) _ (c .before .if1 .left) (c .wrong-change-sizes .ensures)
 
 pub wrong-run-sizes-spec : {M : Type 1} → statement M
 wrong-run-sizes-spec =

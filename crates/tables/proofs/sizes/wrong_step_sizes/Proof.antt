@@ -16,7 +16,8 @@ returns : tie.Need-returns
 unfolding stepSizes resetSizes
 returns c =
     let a = c .before .before .before .before .before .before .before .before .before .args in
-    passed-first (resetSizes (a .kinds .now) (a .states .now)) (wireSizes (netOf (a .kinds .now) (a .types .now) (a .gates .now) (a .sources .now) (a .drains .now)) ++ workSizes (netOf (a .kinds .now) (a .types .now) (a .gates .now) (a .sources .now) (a .drains .now)) (a .work .now)) _ (c .before .wrong-reset-sizes .ensures) (c .if1 .taken)
+    let net = netOf (a .kinds .now) (a .types .now) (a .gates .now) (a .sources .now) (a .drains .now) in
+    passed-first (resetSizes (a .kinds .now) (a .states .now)) (wireSizes net ++ workSizes net (a .work .now)) _ (c .before .wrong-reset-sizes .ensures) (c .if1 .taken)
 
 wrong-wire-sizes-requires : tie.Need-wrong-wire-sizes-requires
 wrong-wire-sizes-requires c κs = search needs
@@ -25,8 +26,9 @@ returns-2 : tie.Need-returns-2
 unfolding stepSizes resetSizes
 returns-2 c =
     let a = c .before .before .before .before .before .before .before .before .before .before .before .args in
-    failed-first (resetSizes (a .kinds .now) (a .states .now)) (wireSizes (netOf (a .kinds .now) (a .types .now) (a .gates .now) (a .sources .now) (a .drains .now)) ++ workSizes (netOf (a .kinds .now) (a .types .now) (a .gates .now) (a .sources .now) (a .drains .now)) (a .work .now)) _ (c .before .before .before .wrong-reset-sizes .ensures) _ (c .before .before .if1 .left)
-    (passed-first (wireSizes (netOf (a .kinds .now) (a .types .now) (a .gates .now) (a .sources .now) (a .drains .now))) (workSizes (netOf (a .kinds .now) (a .types .now) (a .gates .now) (a .sources .now) (a .drains .now)) (a .work .now)) _ (c .before .wrong-wire-sizes .ensures) (c .if2 .taken))
+    let net = netOf (a .kinds .now) (a .types .now) (a .gates .now) (a .sources .now) (a .drains .now) in
+    failed-first (resetSizes (a .kinds .now) (a .states .now)) (wireSizes net ++ workSizes net (a .work .now)) _ (c .before .before .before .wrong-reset-sizes .ensures) _ (c .before .before .if1 .left)
+    (passed-first (wireSizes net) (workSizes net (a .work .now)) _ (c .before .wrong-wire-sizes .ensures) (c .if2 .taken))
 
 cells-for-requires : tie.Need-cells-for-requires
 cells-for-requires c κs =
@@ -37,8 +39,9 @@ returns-3 : tie.Need-returns-3
 unfolding stepSizes resetSizes
 returns-3 c =
     let a = c .before .before .before .before .before .before .before .before .before .before .before .before .args in
-    failed-first (resetSizes (a .kinds .now) (a .states .now)) (wireSizes (netOf (a .kinds .now) (a .types .now) (a .gates .now) (a .sources .now) (a .drains .now)) ++ workSizes (netOf (a .kinds .now) (a .types .now) (a .gates .now) (a .sources .now) (a .drains .now)) (a .work .now)) _ (c .before .before .before .before .wrong-reset-sizes .ensures) _ (c .before .before .before .if1 .left)
-    (failed-first (wireSizes (netOf (a .kinds .now) (a .types .now) (a .gates .now) (a .sources .now) (a .drains .now))) (workSizes (netOf (a .kinds .now) (a .types .now) (a .gates .now) (a .sources .now) (a .drains .now)) (a .work .now)) _ (c .before .before .wrong-wire-sizes .ensures) _ (c .before .if2 .left)
+    let net = netOf (a .kinds .now) (a .types .now) (a .gates .now) (a .sources .now) (a .drains .now) in
+    failed-first (resetSizes (a .kinds .now) (a .states .now)) (wireSizes net ++ workSizes net (a .work .now)) _ (c .before .before .before .before .wrong-reset-sizes .ensures) _ (c .before .before .before .if1 .left)
+    (failed-first (wireSizes net) (workSizes net (a .work .now)) _ (c .before .before .wrong-wire-sizes .ensures) _ (c .before .if2 .left)
     (rw (c .cells-for .ensures) (sym (or-false _))))
 
 pub wrong-step-sizes-spec : {M : Type 1} → statement M

@@ -30,8 +30,11 @@ same-length-2 c = search needs
 
 returns : tie.Need-returns
 returns c =
-    let kept = c .before .before .before .before .before .before .before .settled .kept in
-    start-leaves _ _ _ _ _ (omega arith) _ (c .before .before .before .before .before .before .before .before .before .before .cells-for .ensures) (c .before .before .clear .ensures) _ (c .before .before .before .before .before .before .before .before .before .before .before .before .before .before .before .before .before .before .before .before .pre) (sym (c .before .before .before .before .before .before .before .settled .ensures .tells) ∙ not-true _ (c .before .before .before .before .if1 .taken)) (c .before .before .before .before .before .before .before .settled .ensures .spared)
+    let rest = c .before .before .before .before .before .before .before .settled in
+    let kept = rest .kept in
+    let start = c .before .before .before .before .before .before .before .before .before .before .before .before .before .before .before .before .before .before .before .before in
+    start-leaves _ _ _ _ _ (omega arith) _ (c .before .before .before .before .before .before .before .before .before .before .cells-for .ensures) (c .before .before .clear .ensures) _ (start .pre)
+    (sym (rest .ensures .tells) ∙ not-true _ (c .before .before .before .before .if1 .taken)) (rest .ensures .spared)
 
 ternary-core-requires : tie.Need-ternary-core-requires
 ternary-core-requires c κs =
@@ -53,9 +56,13 @@ same-length-4 c = search needs
 
 returns-2 : tie.Need-returns-2
 returns-2 c =
-    let kept = c .before .before .before .before .before .before .before .before .ternary-core .kept in
-    let before = c .before .before .before .before .before .before .before .before .before .before .before .before .before .before .settled .kept in
-    ternary-leaves _ _ _ _ _ (omega arith) _ (c .before .before .before .before .before .before .before .before .before .before .before .before .before .before .before .before .before .cells-for .ensures) (c .before .before .clear2 .ensures) _ (c .before .before .before .before .before .before .before .before .before .before .before .before .before .before .before .before .before .before .before .before .before .before .before .before .before .before .before .pre) (sym (c .before .before .before .before .before .before .before .before .before .before .before .before .before .before .settled .ensures .tells) ∙ not-false _ (c .before .before .before .before .before .before .before .before .before .before .before .if1 .left)) _ (c .before .before .before .before .before .before .before .before .before .before .before .before .before .before .settled .ensures .spared) _ _ _ (c .before .before .before .before .before .before .before .before .ternary-core .ensures)
+    let ran = c .before .before .before .before .before .before .before .before .ternary-core in
+    let kept = ran .kept in
+    let rest = c .before .before .before .before .before .before .before .before .before .before .before .before .before .before .settled in
+    let kept-before = rest .kept in
+    let start = c .before .before .before .before .before .before .before .before .before .before .before .before .before .before .before .before .before .before .before .before .before .before .before .before .before .before .before in
+    ternary-leaves _ _ _ _ _ (omega arith) _ (c .before .before .before .before .before .before .before .before .before .before .before .before .before .before .before .before .before .cells-for .ensures) (c .before .before .clear2 .ensures) _ (start .pre)
+    (sym (rest .ensures .tells) ∙ not-false _ (c .before .before .before .before .before .before .before .before .before .before .before .if1 .left)) _ (rest .ensures .spared) _ _ _ (ran .ensures)
 
 pub run-ternary-spec : {M : Type 1} → statement M
 run-ternary-spec =

@@ -37,9 +37,11 @@ same-length-2 c = search needs
 
 returns : tie.Need-returns
 returns c =
-    let kept = c .before .before .before .before .before .before .before .before .before .before .unit-core .kept in
+    let ran = c .before .before .before .before .before .before .before .before .before .before .unit-core in
+    let kept = ran .kept in
+    let start = c .before .before .before .before .before .before .before .before .before .before .before .before .before .before .before .before .before .before .before .before .before .before .before in
     rw (c .ran-answer .ensures, c .before .limit-of .ensures)
-    (unit-leaves _ _ _ _ _ (omega arith) _ (c .before .before .before .before .before .before .before .before .before .before .before .before .before .cells-for .ensures) (c .before .before .before .before .clear .ensures) _ _ (c .before .before .before .before .before .before .before .before .before .before .before .before .before .before .before .before .before .before .before .before .before .before .before .pre) _ _ _ (c .before .before .before .before .before .before .before .before .before .before .unit-core .ensures))
+    (unit-leaves _ _ _ _ _ (omega arith) _ (c .before .before .before .before .before .before .before .before .before .before .before .before .before .cells-for .ensures) (c .before .before .before .before .clear .ensures) _ _ (start .pre) _ _ _ (ran .ensures))
 
 pub run-unit-spec : {M : Type 1} → statement M
 run-unit-spec =

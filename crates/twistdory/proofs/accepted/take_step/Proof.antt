@@ -32,8 +32,10 @@ same-length-2 c = search needs
 
 returns : tie.Need-returns
 returns c =
-    let kept = c .before .before .before .before .before .before .before .before .step-once .kept in
-    step-leaves _ _ _ _ _ (omega arith) _ (c .before .before .before .before .before .before .before .before .before .before .before .cells-for .ensures) (c .before .before .clear .ensures) (c .before .before .before .before .before .before .before .before .before .before .before .before .before .before .before .before .before .before .before .pre) _ _ (c .before .before .before .before .before .before .before .before .step-once .ensures)
+    let stepped = c .before .before .before .before .before .before .before .before .step-once in
+    let kept = stepped .kept in
+    step-leaves _ _ _ _ _ (omega arith) _ (c .before .before .before .before .before .before .before .before .before .before .before .cells-for .ensures) (c .before .before .clear .ensures)
+    (c .before .before .before .before .before .before .before .before .before .before .before .before .before .before .before .before .before .before .before .pre) _ _ (stepped .ensures)
 
 pub take-step-spec : {M : Type 1} → statement M
 take-step-spec =
