@@ -2,6 +2,7 @@
 // A slice passes as a pointer and a length in elements.
 use model::Answer;
 ghost use mathlib.Core.Path.{_≡_};
+ghost use mathlib.Core.List.{[]};
 ghost use Rattle.model.specs.Net.{netOf};
 ghost use Rattle.model.specs.Run.{changesOf};
 ghost use Rattle.model.specs.Answer.{row};
@@ -36,8 +37,7 @@ pub extern "C" fn twistdory_check(
 
 #[no_mangle]
 pub extern "C" fn twistdory_reset(kinds: &[u8], states: &mut [u8], answer: &mut [u32; 4])
-    ensures numbers { λ _. ⌜ now (answer .exit) ≡ row (resetOutcome (now (kinds .entry)) (now (states .entry)) .answer) ⌝ }
-    ensures leaves { λ _. ⌜ now (states .exit) ≡ resetOutcome (now (kinds .entry)) (now (states .entry)) .states ⌝ }
+    ensures { λ _. ⌜ Told (resetOutcome (now (kinds .entry)) (now (states .entry))) (now (answer .exit)) (now (states .exit)) [] ⌝ }
 {
     *answer = row_of(twistdory::reset(kinds, states));
 }

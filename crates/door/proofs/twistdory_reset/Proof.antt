@@ -15,7 +15,9 @@ same-length : tie.Need-same-length
 same-length c = search needs
 
 returns : tie.Need-returns
-returns c = (c .row-of .ensures ∙ ap row (c .before .before .before .reset .ensures .0), c .before .before .before .reset .ensures .1)
+returns c =
+    let e = c .before .before .before .reset .ensures in
+    record { numbers = c .row-of .ensures ∙ ap row (e .answers); states-left = e .states-left; work-left = e .work-left }
 
 pub twistdory-reset-spec : {M : Type 1} → statement M
 twistdory-reset-spec = tie.close (tie.spec reset-requires row-of-requires same-length returns)
