@@ -55,10 +55,10 @@ pub fn differing(states: &[u8], work: &[u16]) -> u32
     ensures { λ r. ⌜ r ≡ altered (now (states .entry)) (now (work .entry)) ⌝ }
 {
     let mut k = 0;
-    let mut v = 0;
-    while v < states.len() {
-        k += differs(work[v], states[v]);
-        v += 1;
+    let mut node = 0;
+    while node < states.len() {
+        k += differs(work[node], states[node]);
+        node += 1;
     }
     k
 }

@@ -12,13 +12,11 @@ use Rattle.stepper.proofs.Stores.{one-few, count-few, count-more, count
 use Rattle.stepper.proofs.differing.Statement.{statement}
 use Rattle.stepper.proofs.differing.Tie as tie
 
--- `stepper::differing` meets its contract: it has counted the nodes passed. Assumes nothing.
-
 abbrev Inv-loop : tie.InvT-loop
-Inv-loop states work k₀ v₀ k v = (v ≤ length states) × (k ≡ count v (λ i. not (eqb (at work i) (at states i))))
+Inv-loop states work k₀ node₀ k node = (node ≤ length states) × (k ≡ count node (λ i. not (eqb (at work i) (at states i))))
 
 abbrev μ-loop : tie.MeasureT-loop
-μ-loop states work k₀ v₀ k v = length states - v
+μ-loop states work k₀ node₀ k node = length states - node
 
 loop-holds : tie.Need-loop-holds Inv-loop μ-loop
 loop-holds c = (omega arith, refl)
@@ -39,10 +37,10 @@ add-k : tie.Need-add-k Inv-loop μ-loop
 add-k c =
     let start = c .before .before .before .before .before .before .before in
     let turn = c .before .before .before .before .loop in
-    omega (arith, one-few (start .args .states .now) (start .args .work .now) (turn .v) (c .differs .result) (c .differs .ensures), count-few (start .args .states .now) (start .args .work .now) (turn .v) (turn .k) (turn .inv .1))
+    omega (arith, one-few (start .args .states .now) (start .args .work .now) (turn .node) (c .differs .result) (c .differs .ensures), count-few (start .args .states .now) (start .args .work .now) (turn .node) (turn .k) (turn .inv .1))
 
-add-v : tie.Need-add-v Inv-loop μ-loop
-add-v c = search needs
+add-node : tie.Need-add-node Inv-loop μ-loop
+add-node c = search needs
 
 loop-less : tie.Need-loop-less Inv-loop μ-loop
 loop-less c = search needs
@@ -68,7 +66,7 @@ differing-spec =
     shared-slice-read-differs-2
     differs-requires
     add-k
-    add-v
+    add-node
     loop-less
     loop-again
     returns)
