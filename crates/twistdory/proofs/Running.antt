@@ -82,7 +82,7 @@ module _ (net : Net) (s w w₁ w′ : List ℕ) (same : length w₁ ≡ length w
       (accepted-gives (stepRules net s w) (untouched s w) (record { answer = Done (altered s (step net s)) 0; states = step net s; work = cleared (cells net) w }) Accepted (sym e) refl)
       (record { answers = ap (λ (j : ℕ). Done j 0) (st .count); states-left = st .states; work-left = wiped (st .spared) })
 
-  pub unit-leaves : (ch : Changes) (limit : ℕ) → judge (unitRules net s ch limit w) ≡ Accepted → (b : Bool) (k : ℕ) (s′ : List ℕ) → Ended net (unitSteps (step net) s ch limit) w b k s′ w₁
+  pub unit-leaves : (ch : Changes) (limit : ℕ) → judge (unitRules net s ch limit w) ≡ Accepted → (b : Bool) (k : ℕ) (s′ : List ℕ) → Ended net (λ f. unitSteps f s ch limit) w b k s′ w₁
       → Leaves (unitOutcome net s ch limit w) (cond b (Done k 0) (Oscillates (limitOf limit))) s′ w′
   unfolding unitOutcome
   unit-leaves ch limit e b k s′ en =
@@ -99,7 +99,7 @@ module _ (net : Net) (s w w₁ w′ : List ℕ) (same : length w₁ ≡ length w
       (record { answers = refl; states-left = refl; work-left = wiped sp })
 
   pub ternary-leaves : (ch : Changes) → judge (ternaryRules net s ch w) ≡ Accepted → settled (step net) s ≡ true → (w₀ : List ℕ) → Spared net w w₀ → (k l : ℕ) (s′ : List ℕ)
-      → Halved net (firstHalf (nodes net) (step net) s ch) (secondHalf (nodes net) (step net) s ch) w₀ k l s′ w₁ → Leaves (ternaryOutcome net s ch w) (Done k l) s′ w′
+      → Halved net s ch w₀ k l s′ w₁ → Leaves (ternaryOutcome net s ch w) (Done k l) s′ w′
   unfolding ternaryOutcome
   ternary-leaves ch e h w₀ sp k l s′ hv =
       leaves-at (at-rest net s ch w h ∙ accepted-gives (ternaryRules net s ch w) (untouched s w) (started net s ch w) Accepted (sym e) refl)

@@ -34,7 +34,7 @@ returns c =
     let kept = rest .kept in
     let start = c .before .before .before .before .before .before .before .before .before .before .before .before .before .before .before .before .before .before .before .before in
     start-leaves _ _ _ _ _ (omega arith) _ (c .before .before .before .before .before .before .before .before .before .before .cells-for .ensures) (c .before .before .clear .ensures) _ (start .pre)
-    (sym (rest .ensures .0) ∙ not-true _ (c .before .before .before .before .if1 .taken)) (rest .ensures .1)
+    (sym (rest .ensures .tells) ∙ not-true _ (c .before .before .before .before .if1 .taken)) (rest .ensures .spared)
 
 ternary-core-requires : tie.Need-ternary-core-requires
 ternary-core-requires c κs =
@@ -62,7 +62,7 @@ returns-2 c =
     let kept-before = rest .kept in
     let start = c .before .before .before .before .before .before .before .before .before .before .before .before .before .before .before .before .before .before .before .before .before .before .before .before .before .before .before in
     ternary-leaves _ _ _ _ _ (omega arith) _ (c .before .before .before .before .before .before .before .before .before .before .before .before .before .before .before .before .before .cells-for .ensures) (c .before .before .clear2 .ensures) _ (start .pre)
-    (sym (rest .ensures .0) ∙ not-false _ (c .before .before .before .before .before .before .before .before .before .before .before .if1 .left)) _ (rest .ensures .1) _ _ _ (ran .ensures)
+    (sym (rest .ensures .tells) ∙ not-false _ (c .before .before .before .before .before .before .before .before .before .before .before .if1 .left)) _ (rest .ensures .spared) _ _ _ (ran .ensures)
 
 pub run-ternary-spec : {M : Type 1} → statement M
 run-ternary-spec =
