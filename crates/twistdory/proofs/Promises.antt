@@ -1,23 +1,22 @@
 -- The demands, as what a caller may conclude from the contracts alone: s and w are the states and the work area as they were lent, r the answer,
 -- t and u the states and the work area as they are left. Assumes nothing.
 use Prim.Native.Nat.{ℕ, _≤_, _<_}
-use mathlib.Core.Path.{_≡_, refl, ap, _∙_, sym, subst}
-use mathlib.Core.Bool.{Bool, true, false}
+use mathlib.Core.Path.{_≡_, refl, ap, sym, subst}
+use mathlib.Core.Bool.{Bool, true}
 use mathlib.Core.Logic.{_⊎_, _↔_}
 use mathlib.Core.List.{List}
-use lib.ListN.{length}
-use Rattle.model.specs.Places.{tab, at}
+use Rattle.model.specs.Places.{at}
 use Rattle.model.specs.Net.{Net, nodes, isInput, stands, joined, setState, step}
 use Rattle.model.specs.Run.{Changes, entered, changed, limitOf}
 use Rattle.model.specs.Answer.{number, firstCount, secondCount}
-use Rattle.model.specs.Rules.{cells, checkRules, resetRules, stepRules, unitRules}
-use Rattle.model.specs.Entries.{Outcome, cleared, altered, checkAnswer, resetOutcome, stepOutcome, unitOutcome, ternaryOutcome, Leaves}
+use Rattle.model.specs.Rules.{cells, stepRules, unitRules}
+use Rattle.model.specs.Entries.{Outcome, cleared, altered, stepOutcome, unitOutcome, ternaryOutcome, Leaves}
 use Rattle.model.specs.Order.{_≼_}
 use Rattle.model.specs.Cover.{OneByOne}
 use Rattle.model.specs.Demands.{Choice, Lowest, Settles, Unsettled, Covered}
 use Rattle.model.specs.Alike.{Alike, SameAnswer, SameRun}
 use Rattle.model.specs.declared.Answer.{Answer}
-use Rattle.model.specs.declared.Answer.the-variants.{Done, Oscillates}
+use Rattle.model.specs.declared.Answer.the-variants.{Oscillates}
 use Rattle.model.proofs.RuleOne.{Inner, step-exactly}
 use Rattle.model.proofs.Demands.{allRules, step-lowest, step-untouched, step-takes, unit-lowest, unit-untouched, unit-settles, unit-at-limit, unit-runs, ternary-lowest, ternary-untouched, ternary-unsettled, ternary-settles, ternary-covers, ternary-runs, unit-below}
 use Rattle.model.proofs.OrderFree.{step-order, unit-order, ternary-order}
@@ -26,10 +25,6 @@ use Rattle.model.proofs.OrderFree.{step-order, unit-order, ternary-order}
 pub as-left : (P : Answer → List ℕ → List ℕ → Type 0) {o : Outcome} {r : Answer} {t u : List ℕ} → Leaves o r t u → P (o .answer) (o .states) (o .work) → P r t u
 as-left P {o} {r} {t} {u} l p =
     subst (λ (a : Answer). P a t u) (sym (l .answers)) (subst (λ (x : List ℕ). P (o .answer) x u) (sym (l .states-left)) (subst (λ (y : List ℕ). P (o .answer) (o .states) y) (sym (l .work-left)) p))
-
--- any two outcomes that a contract admits are equal
-pub one-outcome : {o : Outcome} {r r′ : Answer} {t t′ u u′ : List ℕ} → Leaves o r t u → Leaves o r′ t′ u′ → (r ≡ r′) × (t ≡ t′) × (u ≡ u′)
-one-outcome l k = (l .answers ∙ sym (k .answers), l .states-left ∙ sym (k .states-left), l .work-left ∙ sym (k .work-left))
 
 -- Step
 module _ (net : Net) (s w : List ℕ) {r : Answer} {t u : List ℕ} (contract : Leaves (stepOutcome net s w) r t u) where
