@@ -22,7 +22,7 @@ ghost use lib.ListN.{length};
 ghost use Rattle.model.specs.Bounds.{mostNodes};
 ghost use Rattle.model.specs.Net.{netOf};
 ghost use Rattle.model.specs.Run.{changesOf};
-ghost use Rattle.model.specs.Rules.{judge, kindRule, wireRule, stateRule, changeRule, checkRules, resetRules, stepRules, runRules, unitRules, ternaryRules};
+ghost use Rattle.model.specs.Rules.{judge, kindRule, wireRule, stateRule, checkRules, resetRules, stepRules, runRules, unitRules, ternaryRules};
 ghost use Rattle.tables.specs.Lent.{Sized, SizedChanges};
 
 // The kinds.

@@ -4,7 +4,7 @@ use model::MOST_NODES;
 use model::MOST_TRANSISTORS;
 ghost use Prim.Native.Nat.{_≤_};
 ghost use mathlib.Core.Path.{_≡_};
-ghost use mathlib.Core.List.{[], _++_};
+ghost use mathlib.Core.List.{[]};
 ghost use Rattle.model.specs.Bounds.{mostNodes, mostTransistors, cellsFor};
 ghost use Rattle.model.specs.Places.{any};
 ghost use Rattle.model.specs.Net.{netOf};
