@@ -52,13 +52,13 @@ pub fn run_unit(
     gates: &[u16],
     sources: &[u16],
     drains: &[u16],
-    named: &[u16],
-    values: &[u8],
+    change_nodes: &[u16],
+    change_states: &[u8],
     limit: u32,
     work: &mut [u16],
 ) -> Answer
-    requires { ⌜ judge (unitRules (netOf (now kinds) (now types) (now gates) (now sources) (now drains)) (now states) (changesOf (now named) (now values)) limit (now work)) ≡ Accepted ⌝ }
-    ensures { λ r. ⌜ Leaves (unitOutcome (netOf (now (kinds .entry)) (now (types .entry)) (now (gates .entry)) (now (sources .entry)) (now (drains .entry))) (now (states .entry)) (changesOf (now (named .entry)) (now (values .entry))) limit (now (work .entry))) r (now (states .exit)) (now (work .exit)) ⌝ }
+    requires { ⌜ judge (unitRules (netOf (now kinds) (now types) (now gates) (now sources) (now drains)) (now states) (changesOf (now «change_nodes») (now «change_states»)) limit (now work)) ≡ Accepted ⌝ }
+    ensures { λ r. ⌜ Leaves (unitOutcome (netOf (now (kinds .entry)) (now (types .entry)) (now (gates .entry)) (now (sources .entry)) (now (drains .entry))) (now (states .entry)) (changesOf (now («change_nodes» .entry)) (now («change_states» .entry))) limit (now (work .entry))) r (now (states .exit)) (now (work .exit)) ⌝ }
 {
     let used = cells_for(kinds.len(), types.len());
     let ran = runs::unit_core(
@@ -68,8 +68,8 @@ pub fn run_unit(
         gates,
         sources,
         drains,
-        named,
-        values,
+        change_nodes,
+        change_states,
         limit,
         work,
     );
@@ -85,12 +85,12 @@ pub fn run_ternary(
     gates: &[u16],
     sources: &[u16],
     drains: &[u16],
-    named: &[u16],
-    values: &[u8],
+    change_nodes: &[u16],
+    change_states: &[u8],
     work: &mut [u16],
 ) -> Answer
-    requires { ⌜ judge (ternaryRules (netOf (now kinds) (now types) (now gates) (now sources) (now drains)) (now states) (changesOf (now named) (now values)) (now work)) ≡ Accepted ⌝ }
-    ensures { λ r. ⌜ Leaves (ternaryOutcome (netOf (now (kinds .entry)) (now (types .entry)) (now (gates .entry)) (now (sources .entry)) (now (drains .entry))) (now (states .entry)) (changesOf (now (named .entry)) (now (values .entry))) (now (work .entry))) r (now (states .exit)) (now (work .exit)) ⌝ }
+    requires { ⌜ judge (ternaryRules (netOf (now kinds) (now types) (now gates) (now sources) (now drains)) (now states) (changesOf (now «change_nodes») (now «change_states»)) (now work)) ≡ Accepted ⌝ }
+    ensures { λ r. ⌜ Leaves (ternaryOutcome (netOf (now (kinds .entry)) (now (types .entry)) (now (gates .entry)) (now (sources .entry)) (now (drains .entry))) (now (states .entry)) (changesOf (now («change_nodes» .entry)) (now («change_states» .entry))) (now (work .entry))) r (now (states .exit)) (now (work .exit)) ⌝ }
 {
     let used = cells_for(kinds.len(), types.len());
     if !runs::settled(kinds, states, types, gates, sources, drains, work) {
@@ -104,8 +104,8 @@ pub fn run_ternary(
         gates,
         sources,
         drains,
-        named,
-        values,
+        change_nodes,
+        change_states,
         work,
     );
     clear(work, used);

@@ -90,12 +90,12 @@ pub fn unit_run(
     gates: &[u16],
     sources: &[u16],
     drains: &[u16],
-    named: &[u16],
-    values: &[u8],
+    change_nodes: &[u16],
+    change_states: &[u8],
     limit: u32,
     work: &mut [u16],
 ) -> Answer
-    ensures { λ r. ⌜ Leaves (unitOutcome (netOf (now (kinds .entry)) (now (types .entry)) (now (gates .entry)) (now (sources .entry)) (now (drains .entry))) (now (states .entry)) (changesOf (now (named .entry)) (now (values .entry))) limit (now (work .entry))) r (now (states .exit)) (now (work .exit)) ⌝ }
+    ensures { λ r. ⌜ Leaves (unitOutcome (netOf (now (kinds .entry)) (now (types .entry)) (now (gates .entry)) (now (sources .entry)) (now (drains .entry))) (now (states .entry)) (changesOf (now («change_nodes» .entry)) (now («change_states» .entry))) limit (now (work .entry))) r (now (states .exit)) (now (work .exit)) ⌝ }
 {
     match tables::judge_unit(
         kinds,
@@ -104,8 +104,8 @@ pub fn unit_run(
         gates,
         sources,
         drains,
-        named,
-        values,
+        change_nodes,
+        change_states,
         limit,
         work,
     ) {
@@ -117,8 +117,8 @@ pub fn unit_run(
             gates,
             sources,
             drains,
-            named,
-            values,
+            change_nodes,
+            change_states,
             limit,
             work,
         ),
@@ -133,11 +133,11 @@ pub fn ternary_run(
     gates: &[u16],
     sources: &[u16],
     drains: &[u16],
-    named: &[u16],
-    values: &[u8],
+    change_nodes: &[u16],
+    change_states: &[u8],
     work: &mut [u16],
 ) -> Answer
-    ensures { λ r. ⌜ Leaves (ternaryOutcome (netOf (now (kinds .entry)) (now (types .entry)) (now (gates .entry)) (now (sources .entry)) (now (drains .entry))) (now (states .entry)) (changesOf (now (named .entry)) (now (values .entry))) (now (work .entry))) r (now (states .exit)) (now (work .exit)) ⌝ }
+    ensures { λ r. ⌜ Leaves (ternaryOutcome (netOf (now (kinds .entry)) (now (types .entry)) (now (gates .entry)) (now (sources .entry)) (now (drains .entry))) (now (states .entry)) (changesOf (now («change_nodes» .entry)) (now («change_states» .entry))) (now (work .entry))) r (now (states .exit)) (now (work .exit)) ⌝ }
 {
     match tables::judge_ternary(
         kinds,
@@ -146,8 +146,8 @@ pub fn ternary_run(
         gates,
         sources,
         drains,
-        named,
-        values,
+        change_nodes,
+        change_states,
         work,
     ) {
         Verdict::Refused(a) => a,
@@ -158,8 +158,8 @@ pub fn ternary_run(
             gates,
             sources,
             drains,
-            named,
-            values,
+            change_nodes,
+            change_states,
             work,
         ),
     }
