@@ -12,8 +12,8 @@ use lib.Dec.{eqb}
 use borrow.Author.Tests.{eqb-true, eq-eqb, not-false}
 use Rattle.model.specs.Places.{tab, some, at}
 use Rattle.model.specs.Run.{Changes, put, changed, raised, lowered, changesOf}
-use Rattle.model.proofs.Places.{length-tab, getD-tab, some-at, some-of}
-use Rattle.model.proofs.Changes.{length-put, put-unnamed, put-named}
+use Rattle.laws.proofs.Places.{length-tab, getD-tab, some-at, some-of}
+use Rattle.laws.proofs.Changes.{length-put, put-unnamed, put-named}
 use Rattle.stepper.proofs.Stores.{Stored, here, else, stored}
 use Rattle.runs.specs.Runs.{Named, Once}
 

@@ -14,9 +14,9 @@ use Rattle.model.specs.Net.{Net, nodes, step}
 use Rattle.model.specs.Run.{Ran, settled, settle}
 use Rattle.model.specs.Entries.{altered}
 use Rattle.model.specs.Cover.{Stepper}
-use Rattle.model.proofs.Descent.{count-lt}
-use Rattle.model.proofs.Settle.{same-true, same-false}
-use Rattle.model.proofs.RuleOne.{stepper}
+use Rattle.laws.proofs.Descent.{count-lt}
+use Rattle.laws.proofs.Settle.{same-true, same-false}
+use Rattle.laws.proofs.RuleOne.{stepper}
 use Rattle.stepper.specs.Step.{Evaluated}
 use Rattle.stepper.proofs.Next.{evaluated-count, evaluated-states}
 use Rattle.runs.specs.Runs.{Spared, Ended}

@@ -10,7 +10,7 @@ use Rattle.model.specs.Places.{at}
 use Rattle.model.specs.Net.{Net, nodes, isInput, step}
 use Rattle.model.specs.Run.{Ran, put, raised, lowered, settle, limitOf, unitSteps, firstHalf, secondHalf, changesOf}
 use Rattle.model.specs.Demands.{Enterable}
-use Rattle.model.proofs.RuleOne.{stepper}
+use Rattle.laws.proofs.RuleOne.{stepper}
 use Rattle.runs.specs.Runs.{Named, Ended, Halved}
 use Rattle.runs.proofs.Steps.{settle-keeps}
 use Rattle.runs.proofs.Entering.{lowering}

@@ -11,7 +11,7 @@ use Rattle.model.specs.Net.{Net, nodes, standAt, sourceState}
 use Rattle.model.specs.Ways.{Frame}
 use Rattle.model.specs.Tables.{Came, began, over, Least, StepTables}
 use Rattle.model.specs.RuleOne.{frame}
-use Rattle.model.proofs.RuleOne.{tables-step}
+use Rattle.laws.proofs.RuleOne.{tables-step}
 use Rattle.stepper.specs.Step.{Checked, Evaluated}
 use Rattle.stepper.specs.Relax.{cell, flow, Relaxed}
 use Rattle.stepper.specs.Start.{Written, Bytes, own, begins, Definite, Against, next}

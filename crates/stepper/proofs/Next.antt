@@ -10,8 +10,8 @@ use lib.Dec.{eqb}
 use Rattle.model.specs.Places.{tab, count, at}
 use Rattle.model.specs.Net.{Net, nodes, step}
 use Rattle.model.specs.Entries.{altered}
-use Rattle.model.proofs.Places.{length-tab, getD-tab}
-use Rattle.model.proofs.RuleOne.{stepper}
+use Rattle.laws.proofs.Places.{length-tab, getD-tab}
+use Rattle.laws.proofs.RuleOne.{stepper}
 use Rattle.stepper.specs.Step.{Evaluated}
 
 count-same : (n : ℕ) (p q : ℕ → Bool) → ((i : ℕ) → i < n → p i ≡ q i) → count n p ≡ count n q

@@ -13,8 +13,8 @@ use lib.Dec.{eqb}
 use lib.Seq.{getD-set-same, getD-set-other, ext-getD}
 use Rattle.model.specs.Places.{tab, count, at}
 use Rattle.model.specs.Entries.{altered}
-use Rattle.model.proofs.Places.{length-tab, getD-tab}
-use Rattle.model.proofs.Descent.{count-all}
+use Rattle.laws.proofs.Places.{length-tab, getD-tab}
+use Rattle.laws.proofs.Descent.{count-all}
 use Rattle.stepper.specs.Start.{Written, Bytes}
 
 -- a store at i, seen at k

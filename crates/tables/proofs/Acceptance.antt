@@ -13,8 +13,8 @@ use Rattle.model.specs.Rules.{Rule, judge, kindRule, wireRule, stateRule, wireT
 use Rattle.model.specs.Demands.{Clean, Judged, Enterable}
 use Rattle.model.specs.declared.Verdict.{Verdict}
 use Rattle.model.specs.declared.Verdict.the-variants.{Accepted}
-use Rattle.model.proofs.Changes.{clean-changes}
-use Rattle.model.proofs.Judged.{judge-says, any-none}
+use Rattle.laws.proofs.Changes.{clean-changes}
+use Rattle.laws.proofs.Judged.{judge-says, any-none}
 use Rattle.tables.specs.Lent.{Sized, SizedChanges, Sound, Fit}
 use Rattle.tables.proofs.Fitting.{step-sized, run-sized}
 

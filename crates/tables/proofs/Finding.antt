@@ -8,7 +8,7 @@ use mathlib.Core.Bool.{Bool, true, false, not, true≢false}
 use borrow.Author.Tests.{ltb-true, ltb-false, le-leb, lt-leb}
 use lib.Dec.{ltb, leb}
 use Rattle.model.specs.Places.{some, first}
-use Rattle.model.proofs.Judged.{Least, first-says, first-one}
+use Rattle.laws.proofs.Judged.{Least, first-says, first-one}
 
 -- none of the places below k passes
 abbrev pub NoneBelow : (ℕ → Bool) → ℕ → Type 0

@@ -11,7 +11,7 @@ use Rattle.model.specs.Places.{any}
 use Rattle.model.specs.Net.{Net, nodes, transistors}
 use Rattle.model.specs.Run.{Changes}
 use Rattle.model.specs.Rules.{nodeSizes, stateSizes, wireSizes, workSizes, changeSizes, cells, checkSizes, resetSizes, stepSizes, runSizes}
-use Rattle.model.proofs.Judged.{any-none}
+use Rattle.laws.proofs.Judged.{any-none}
 use Rattle.tables.specs.Lent.{Level, Sized, SizedChanges}
 
 any-append : (bs cs : List Bool) → any (bs ++ cs) ≡ (any bs || any cs)

@@ -11,7 +11,7 @@ use Rattle.model.specs.declared.Answer.{Answer}
 use Rattle.model.specs.declared.Answer.the-variants.{Size, Limit}
 use Rattle.model.specs.declared.Verdict.{Verdict}
 use Rattle.model.specs.declared.Verdict.the-variants.{Accepted, Refused}
-use Rattle.model.proofs.Judged.{judge-append}
+use Rattle.laws.proofs.Judged.{judge-append}
 
 -- what a judge has found of the first rules, v, serves for all
 module _ (rs qs : List Rule) (v : Verdict) (e : v ≡ judge rs) where

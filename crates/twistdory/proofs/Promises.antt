@@ -17,9 +17,9 @@ use Rattle.model.specs.Demands.{Choice, Lowest, Settles, Unsettled, Covered}
 use Rattle.model.specs.Alike.{Alike, SameAnswer, SameRun}
 use Rattle.model.specs.declared.Answer.{Answer}
 use Rattle.model.specs.declared.Answer.the-variants.{Oscillates}
-use Rattle.model.proofs.RuleOne.{Inner, step-exactly}
-use Rattle.model.proofs.Demands.{allRules, step-lowest, step-untouched, step-takes, unit-lowest, unit-untouched, unit-settles, unit-at-limit, unit-runs, ternary-lowest, ternary-untouched, ternary-unsettled, ternary-settles, ternary-covers, ternary-runs, unit-below}
-use Rattle.model.proofs.OrderFree.{step-order, unit-order, ternary-order}
+use Rattle.laws.proofs.RuleOne.{Inner, step-exactly}
+use Rattle.laws.proofs.Demands.{allRules, step-lowest, step-untouched, step-takes, unit-lowest, unit-untouched, unit-settles, unit-at-limit, unit-runs, ternary-lowest, ternary-untouched, ternary-unsettled, ternary-settles, ternary-covers, ternary-runs, unit-below}
+use Rattle.laws.proofs.OrderFree.{step-order, unit-order, ternary-order}
 
 -- what holds of an outcome holds of what a contract leaves
 pub as-left : (P : Answer → List ℕ → List ℕ → Type 0) {o : Outcome} {r : Answer} {t u : List ℕ} → Leaves o r t u → P (o .answer) (o .states) (o .work) → P r t u

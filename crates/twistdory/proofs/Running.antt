@@ -16,7 +16,7 @@ use Rattle.model.specs.Entries.{Outcome, untouched, cleared, altered, ranAnswer
 use Rattle.model.specs.Demands.{Enterable}
 use Rattle.model.specs.declared.Answer.the-variants.{Done, Start, Oscillates}
 use Rattle.model.specs.declared.Verdict.the-variants.{Accepted}
-use Rattle.model.proofs.Places.{length-tab, getD-tab}
+use Rattle.laws.proofs.Places.{length-tab, getD-tab}
 use Rattle.tables.specs.Lent.{SizedChanges, Fit}
 use Rattle.stepper.specs.Step.{Checked}
 use Rattle.runs.specs.Runs.{Named, Spared, Stepped, Ended, Halved}

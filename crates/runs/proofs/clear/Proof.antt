@@ -12,7 +12,7 @@ use borrow.Author.Tests.{ltb-true, ltb-false}
 use borrow.Author.Needs.{needs}
 use Rattle.model.specs.Places.{at}
 use Rattle.model.specs.Entries.{cleared}
-use Rattle.model.proofs.Outcomes.{cleared-length, cleared-cell, cleared-rest}
+use Rattle.laws.proofs.Outcomes.{cleared-length, cleared-cell, cleared-rest}
 use Rattle.stepper.specs.Start.{Written}
 use Rattle.runs.proofs.clear.Statement.{statement}
 use Rattle.runs.proofs.clear.Tie as tie

@@ -9,7 +9,7 @@ use borrow.Author.Needs.{needs}
 use lib.ListN.{length, set, length-set}
 use lib.Seq.{ext-getD, getD-set-same, getD-set-other}
 use Rattle.model.specs.Places.{tab, at}
-use Rattle.model.proofs.Places.{length-tab, getD-tab}
+use Rattle.laws.proofs.Places.{length-tab, getD-tab}
 use Rattle.twistdory.proofs.fill_x.Statement.{statement}
 use Rattle.twistdory.proofs.fill_x.Tie as tie
 

@@ -8,23 +8,23 @@ use mathlib.Core.Bool.{Bool, true, false, not, cond}
 use mathlib.Core.List.{List, [], _∷_}
 use lib.ListN.{length}
 use borrow.Author.Tests.{not-false, not-true, lt-ltb, le-ltb}
 use Rattle.model.specs.Places.{iter, same, at}
 use Rattle.model.specs.Run.{Changes, Ran, entered, settled, limitOf, unitSteps, firstHalf, secondHalf}
 use Rattle.model.specs.Answer.{number, firstCount, secondCount}
 use Rattle.model.specs.Rules.{Rule, judge, given, judged, startRule}
 use Rattle.model.specs.Entries.{Outcome, untouched, altered, cleared, stepUnder, ranAnswer, unitUnder, ternaryUnder}
 use Rattle.model.specs.Order.{_≼_}
 use Rattle.model.specs.Cover.{Stepper}
 use Rattle.model.specs.Demands.{Clean, Broken, Judged, Told, Enterable, Settles, Unsettled, Covered}
 use Rattle.model.specs.declared.Answer.{Answer}
 use Rattle.model.specs.declared.Answer.the-variants.{Done, Oscillates}
 use Rattle.model.specs.declared.Verdict.{Verdict}
 use Rattle.model.specs.declared.Verdict.the-variants.{Accepted, Refused}
-use Rattle.model.proofs.Places.{length-tab, getD-tab}
-use Rattle.model.proofs.Settle.{same-refl, same-true, same-false, Ended, Stuck, settle-says}
-use Rattle.model.proofs.Judged.{judge-says, judge-clean, broken-each, Numbered, broken-number}
-use Rattle.model.proofs.Ternary.{ended-settles, stuck-unsettled, halves-cover, steps-covered}
-use Rattle.model.proofs.Changes.{length-put, entered-others}
+use Rattle.laws.proofs.Places.{length-tab, getD-tab}
+use Rattle.laws.proofs.Settle.{same-refl, same-true, same-false, Ended, Stuck, settle-says}
+use Rattle.laws.proofs.Judged.{judge-says, judge-clean, broken-each, Numbered, broken-number}
+use Rattle.laws.proofs.Ternary.{ended-settles, stuck-unsettled, halves-cover, steps-covered}
+use Rattle.laws.proofs.Changes.{length-put, entered-others}
 
 -- to show a fact of what is judged, show it of what is accepted and of what a refusal gives
 pub by-verdict : {A : Type 0} (P : A → Type 0) (rs : List Rule) (refuse : Answer → A) (accept : A) → (Clean rs → P accept) → ((a : Answer) → Broken rs a → P (refuse a))

@@ -10,19 +10,19 @@ use lib.ListN.{length, getD}
 use lib.Seq.{ext-getD}
 use lib.Dec.{eqb, leb}
 use borrow.Author.Tests.{eqb-true, eq-eqb, leb-true, le-leb}
 use Rattle.model.specs.Places.{tab, at, every, most, imp}
 use Rattle.model.specs.Net.{Net, nodes, transistors, isInput, isPullup, Stand, opened, closed, unknown, stands, standAt, everyChoice, linked, joined, strength, sourceState, setState, new, step}
 use Rattle.model.specs.Order.{_⊑_, _≼_}
 use Rattle.model.specs.Cover.{Stepper}
 use Rattle.model.specs.Demands.{Fits, Choice}
 use Rattle.model.specs.Ways.{Frame, Lawful, Joins, Way, source, pass, Definite, Unblocked, From, choose}
 use Rattle.model.specs.Tables.{StepTables, byTables, definite, fresh, stepBy}
 use Rattle.model.specs.RuleOne.{ownStrength, frame, quickStep}
-use Rattle.model.proofs.Places.{length-tab, getD-tab, every-at, every-of, most-of, most-at, imp-of, imp-at}
-use Rattle.model.proofs.Choices.{everyChoice-at, everyChoice-of, Within, choice-tab, choice-at, stand-mono}
-use Rattle.model.proofs.Joined.{_∈_, Ends, Link, linked-at, linked-of, Walk, here, more, joined-walk, walk-joined}
-use Rattle.model.proofs.Agreed.{agreed-cong, agreed-known}
-use Rattle.model.proofs.Ways.{way-map, way-below, way-fine, way-input, way-start, way-top, definite-most, definite-way, none, none-from, from-none, fresh-says, from-down, tables-fresh, stepBy-at, stepBy-length, scheme-stepper}
+use Rattle.laws.proofs.Places.{length-tab, getD-tab, every-at, every-of, most-of, most-at, imp-of, imp-at}
+use Rattle.laws.proofs.Choices.{everyChoice-at, everyChoice-of, Within, choice-tab, choice-at, stand-mono}
+use Rattle.laws.proofs.Joined.{_∈_, Ends, Link, linked-at, linked-of, Walk, here, more, joined-walk, walk-joined}
+use Rattle.laws.proofs.Agreed.{agreed-cong, agreed-known}
+use Rattle.laws.proofs.Ways.{way-map, way-below, way-fine, way-input, way-start, way-top, definite-most, definite-way, none, none-from, from-none, fresh-says, from-down, tables-fresh, stepBy-at, stepBy-length, scheme-stepper}
 
 -- the choice c as how the transistors stand
 abbrev set-by : Bool → Stand

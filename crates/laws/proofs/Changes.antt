@@ -11,15 +11,15 @@ use lib.ListN.{length, set, length-set}
 use lib.Seq.{ext-getD, getD-set-same}
 use lib.Dec.{eqb}
 use borrow.Author.Tests.{eqb-true, ltb-true, ltb-false, not-false, eq-eqb}
 use Rattle.model.specs.Places.{at, some, any}
 use Rattle.model.specs.Net.{Net, nodes, isInput}
 use Rattle.model.specs.Run.{Changes, put, entered}
 use Rattle.model.specs.Rules.{changeTests}
 use Rattle.model.specs.Alike.{Listed}
 use Rattle.model.specs.Demands.{Enterable}
-use Rattle.model.proofs.Places.{some-of, some-at}
-use Rattle.model.proofs.Judged.{any-none}
-use Rattle.model.proofs.Cover.{set-at}
+use Rattle.laws.proofs.Places.{some-of, some-at}
+use Rattle.laws.proofs.Judged.{any-none}
+use Rattle.laws.proofs.Cover.{set-at}
 
 pub length-put : (s ps vs : List ℕ) → length (put s ps vs) ≡ length s
 length-put s [] vs = refl

@@ -10,10 +10,10 @@ use lib.ListN.{length, getD, List·getD-eq-default}
 use lib.Seq.{ext-getD}
 use lib.Dec.{eqb, ltb}
 use borrow.Author.Tests.{eqb-true, eq-eqb, not-true, ltb-true, ltb-false}
 use Rattle.model.specs.Places.{tab, iter, some, at, count}
 use Rattle.model.specs.Net.{Net, nodes, transistors, isInput, linked, spread, joined}
-use Rattle.model.proofs.Places.{length-tab, getD-tab, some-at, some-of, or-true-cases, or-left, or-right}
-use Rattle.model.proofs.Descent.{count-lt, count-all, iter-fixed, iter-keeps, Still, descent}
+use Rattle.laws.proofs.Places.{length-tab, getD-tab, some-at, some-of, or-true-cases, or-left, or-right}
+use Rattle.laws.proofs.Descent.{count-lt, count-all, iter-fixed, iter-keeps, Still, descent}
 
 -- membership of a set, and of a choice
 abbrev pub _∈_ : ℕ → List Bool → Type 0

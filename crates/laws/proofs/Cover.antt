@@ -9,11 +9,11 @@ use mathlib.Core.List.{List, [], _∷_}
 use lib.ListN.{length, set, List·getD-eq-default, length-set}
 use lib.Dec.{eqb, ltb}
 use borrow.Author.Tests.{eqb-true, eqb-false, eq-eqb, ne-eqb, ltb-true, ltb-false, not-true}
 use Rattle.model.specs.Places.{at, iter, count}
 use Rattle.model.specs.Order.{_⊑_, _≼_}
 use Rattle.model.specs.Cover.{Stepper, May, stays, arrives, follows, Reach, begin, move, OneByOne, start, arrive, follow}
 use Rattle.model.specs.Demands.{freeNodes}
-use Rattle.model.proofs.Descent.{count-le, count-lt, Differ, equal-or-differ, iter-fixed, Still, descent}
+use Rattle.laws.proofs.Descent.{count-le, count-lt, Differ, equal-or-differ, iter-fixed, Still, descent}
 
 -- a cell that rises was no X, and is X
 rises : (a b : ℕ) → a ⊑ b → (a ≡ b → ⊥) → (a ≡ 2 → ⊥) × (b ≡ 2)

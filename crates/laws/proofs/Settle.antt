@@ -8,10 +8,10 @@ use mathlib.Core.Bool.{Bool, true, false, true≢false, false≢true, and-eq-tru
 use mathlib.Core.List.{List, [], _∷_}
 use lib.Dec.{eqb, leb}
 use borrow.Author.Tests.{eqb-true, eq-eqb, leb-true, leb-false}
 use Rattle.model.specs.Places.{same, iter}
 use Rattle.model.specs.Run.{Ran, settle}
 use Rattle.model.specs.Tables.{until}
-use Rattle.model.proofs.Descent.{Still, iter-fixed}
+use Rattle.laws.proofs.Descent.{Still, iter-fixed}
 
 pub same-true : (s t : List ℕ) → same s t ≡ true → s ≡ t
 same-true [] [] e = refl

@@ -6,15 +6,15 @@ use mathlib.Core.Path.{_≡_, refl, ap, ap₂, _∙_, sym, subst, fun-ext}
 use mathlib.Core.Logic.{_⊎_, inl, inr}
 use mathlib.Core.Bool.{Bool, true, false, cond}
 use mathlib.Core.List.{List, _∷_}
 use Rattle.model.specs.Places.{tab, at}
 use Rattle.model.specs.Net.{Net, nodes, transistors, isInput, Stand, stand, standAt, sourceState, new, step}
 use Rattle.model.specs.Alike.{Copy, Held, Alike}
 use Rattle.model.specs.Ways.{Frame, Lawful, Joins, Way, source, pass, Definite, Unblocked, From}
 use Rattle.model.specs.Tables.{fresh}
 use Rattle.model.specs.RuleOne.{frame}
-use Rattle.model.proofs.Agreed.{agreed-cong}
-use Rattle.model.proofs.Ways.{none, none-from, from-none}
-use Rattle.model.proofs.RuleOne.{lawful, new-by-ways}
+use Rattle.laws.proofs.Agreed.{agreed-cong}
+use Rattle.laws.proofs.Ways.{none, none-from, from-none}
+use Rattle.laws.proofs.RuleOne.{lawful, new-by-ways}
 
 -- a frame with other transistors between the same nodes
 abbrev pub rewired : Frame → ℕ → (ℕ → ℕ) → (ℕ → ℕ) → (ℕ → ℕ) → Frame

@@ -10,15 +10,15 @@ use mathlib.Core.List.{List}
 use lib.ListN.{length, List·getD-eq-default}
 use lib.Dec.{eqb, ltb}
 use borrow.Author.Tests.{eqb-true, eq-eqb, not-false, ltb-true, ltb-false}
 use Rattle.model.specs.Places.{at, iter}
 use Rattle.model.specs.Order.{_⊑_, _≼_}
 use Rattle.model.specs.Cover.{Stepper, May, stays, arrives, follows, Reach, begin, move}
 use Rattle.model.specs.Run.{Ran, changed, raised, lowered, settle}
 use Rattle.model.specs.Demands.{Settles, Unsettled, freeNodes, Covered}
-use Rattle.model.proofs.Places.{length-tab, getD-tab}
-use Rattle.model.proofs.Descent.{count-all, iter-keeps, iter-fixed, Still}
-use Rattle.model.proofs.Settle.{Ended, Stuck, settle-ends, ended-bound}
-use Rattle.model.proofs.Cover.{within, Rising, Falling, SameInner, rise-settles, fall-settles, raised-rises, lowered-falls, iter-mono, covered}
+use Rattle.laws.proofs.Places.{length-tab, getD-tab}
+use Rattle.laws.proofs.Descent.{count-all, iter-keeps, iter-fixed, Still}
+use Rattle.laws.proofs.Settle.{Ended, Stuck, settle-ends, ended-bound}
+use Rattle.laws.proofs.Cover.{within, Rising, Falling, SameInner, rise-settles, fall-settles, raised-rises, lowered-falls, iter-mono, covered}
 
 still-more : (f : List ℕ → List ℕ) (a b : ℕ) (s : List ℕ) → a ≤ b → Still f a s → Still f b s
 still-more f a b s h r = (r .0, omega arith, r .2)

@@ -10,8 +10,8 @@ use lib.ListN.{length}
 use lib.Seq.{ext-getD}
 use lib.Dec.{eqb}
 use borrow.Author.Tests.{eqb-true, eqb-false, not-true, not-false}
 use Rattle.model.specs.Places.{at, some, iter, count}
-use Rattle.model.proofs.Places.{some-at, some-of}
+use Rattle.laws.proofs.Places.{some-at, some-of}
 
 one-le : (a b : Bool) → (a ≡ true → b ≡ true) → cond a 1 0 ≤ cond b 1 0
 one-le true true h = omega arith

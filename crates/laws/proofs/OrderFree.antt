@@ -9,23 +9,23 @@ use mathlib.Core.List.{List, [], _∷_}
 use lib.ListN.{length}
 use lib.Dec.{eqb, ltb}
 use borrow.Author.Tests.{ltb-true, ltb-false, eqb-true, not-false}
 use Rattle.model.specs.Bounds.{highestType}
 use Rattle.model.specs.Places.{at, any, first}
 use Rattle.model.specs.Net.{Net, nodes, isInput, step}
 use Rattle.model.specs.Run.{Changes, Ran, entered, settle, limitOf, raised, lowered, unitSteps, firstHalf, secondHalf}
 use Rattle.model.specs.Answer.{number}
 use Rattle.model.specs.Rules.{Rule, judge, given, judged, cells, sizeRule, limitRule, kindRule, wireRule, stateRule, changeRule, startRule, wireTests, changeTests, checkSizes, checkRules, stepSizes, stepRules, runSizes, runRules, unitRules, ternaryRules}
 use Rattle.model.specs.Entries.{Outcome, untouched, altered, cleared, ranAnswer, checkAnswer, stepOutcome, unitOutcome, ternaryOutcome}
 use Rattle.model.specs.Demands.{Clean, Enterable}
 use Rattle.model.specs.Alike.{Copy, Held, Alike, Listed, SameAnswer, SameRun}
 use Rattle.model.specs.declared.Answer.{Answer}
 use Rattle.model.specs.declared.Answer.the-variants.{Done, Size}
 use Rattle.model.specs.declared.Verdict.{Verdict}
 use Rattle.model.specs.declared.Verdict.the-variants.{Accepted, Refused}
-use Rattle.model.proofs.Judged.{first-says, any-none}
-use Rattle.model.proofs.Changes.{clean-changes, entered-listed}
-use Rattle.model.proofs.Alike.{other, over-kinds, step-alike}
-use Rattle.model.proofs.Demands.{stepDone, unitEnd, unit-runs, ternaryEnd, ternary-runs}
+use Rattle.laws.proofs.Judged.{first-says, any-none}
+use Rattle.laws.proofs.Changes.{clean-changes, entered-listed}
+use Rattle.laws.proofs.Alike.{other, over-kinds, step-alike}
+use Rattle.laws.proofs.Demands.{stepDone, unitEnd, unit-runs, ternaryEnd, ternary-runs}
 
 -- some place breaks the rule; none does
 abbrev Breaks : Rule → Type 0

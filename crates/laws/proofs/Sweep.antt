@@ -11,14 +11,14 @@ use lib.ListN.{length, set, length-set, List·getD-eq-default}
 use lib.Seq.{ext-getD, getD-set-same}
 use lib.Dec.{ltb, leb}
 use borrow.Author.Tests.{ltb-true, ltb-false, leb-true, lt-ltb, le-leb, not-true}
 use Rattle.model.specs.Places.{tab, at, iter}
 use Rattle.model.specs.Ways.{Frame, Lawful, Inside, Joins}
 use Rattle.model.specs.Tables.{raises, raise, relax, sweepTo, sweep, strongest, starts, Came, began, over, Least}
-use Rattle.model.proofs.Descent.{equal-or-differ, iter-keeps, descent}
-use Rattle.model.proofs.Places.{length-tab, getD-tab}
-use Rattle.model.proofs.Settle.{until-iter}
-use Rattle.model.proofs.Cover.{set-at}
-use Rattle.model.proofs.Joined.{still-end}
+use Rattle.laws.proofs.Descent.{equal-or-differ, iter-keeps, descent}
+use Rattle.laws.proofs.Places.{length-tab, getD-tab}
+use Rattle.laws.proofs.Settle.{until-iter}
+use Rattle.laws.proofs.Cover.{set-at}
+use Rattle.laws.proofs.Joined.{still-end}
 
 -- sums over places
 abbrev pub sum : ℕ → (ℕ → ℕ) → ℕ

@@ -9,17 +9,17 @@ use mathlib.Core.List.{List, []}
 use lib.ListN.{length}
 use lib.Dec.{eqb, leb}
 use borrow.Author.Tests.{eqb-true, eqb-false, eq-eqb, ne-eqb, leb-true, leb-false, le-leb, not-true}
 use Rattle.model.specs.Places.{at}
 use Rattle.model.specs.Net.{Stand, opened, closed, unknown}
 use Rattle.model.specs.Order.{_⊑_, _≼_}
 use Rattle.model.specs.Cover.{Stepper}
 use Rattle.model.specs.Ways.{Frame, Lawful, Way, source, pass, Definite, Unblocked, From, choose}
 use Rattle.model.specs.Tables.{Came, began, over, Least, starts, StepTables, byTables, Strongest, strongest, definite, against, fresh, stepBy}
-use Rattle.model.proofs.Places.{length-tab, getD-tab, or-true-cases}
-use Rattle.model.proofs.Choices.{Within}
-use Rattle.model.proofs.Agreed.{below-bit, agreed-mono, agreed-says}
-use Rattle.model.proofs.Cover.{within}
-use Rattle.model.proofs.Sweep.{strongest-least}
+use Rattle.laws.proofs.Places.{length-tab, getD-tab, or-true-cases}
+use Rattle.laws.proofs.Choices.{Within}
+use Rattle.laws.proofs.Agreed.{below-bit, agreed-mono, agreed-says}
+use Rattle.laws.proofs.Cover.{within}
+use Rattle.laws.proofs.Sweep.{strongest-least}
 
 shut-of : (x : Stand) → choose x false ≡ true → x ≡ closed
 shut-of opened e = absurd (false≢true e)

@@ -8,25 +8,25 @@ use mathlib.Core.List.{List, [], _∷_, _++_}
 use lib.ListN.{length}
 use lib.Dec.{eqb}
 use borrow.Author.Tests.{eqb-true, not-false}
 use Rattle.model.specs.Places.{tab, iter, at}
 use Rattle.model.specs.Net.{Net, nodes, isInput, step}
 use Rattle.model.specs.Run.{Changes, entered, changed, limitOf, unitSteps, firstHalf, secondHalf}
 use Rattle.model.specs.Answer.{number, firstCount, secondCount}
 use Rattle.model.specs.Rules.{Rule, judge, given, cells, startRule, checkRules, resetRules, stepSizes, stepRules, runSizes, runRules, unitRules, ternaryRules}
 use Rattle.model.specs.Entries.{Outcome, untouched, altered, cleared, ranAnswer, checkAnswer, resetOutcome, stepOutcome, unitOutcome, ternaryOutcome}
 use Rattle.model.specs.Order.{_≼_}
 use Rattle.model.specs.Cover.{OneByOne}
 use Rattle.model.specs.Demands.{Clean, Told, Lowest, Enterable, Settles, Unsettled, Covered}
 use Rattle.model.specs.declared.Answer.{Answer}
 use Rattle.model.specs.declared.Answer.the-variants.{Done, Oscillates}
 use Rattle.model.specs.declared.Verdict.{Verdict}
 use Rattle.model.specs.declared.Verdict.the-variants.{Accepted, Refused}
-use Rattle.model.proofs.Agreed.{below-bit}
-use Rattle.model.proofs.Judged.{Numbered, any-none, judged-lowest, judge-append}
-use Rattle.model.proofs.Cover.{one-reach}
-use Rattle.model.proofs.Changes.{clean-changes}
-use Rattle.model.proofs.RuleOne.{stepper}
-use Rattle.model.proofs.Outcomes.{told, by-verdict, step-refused, step-done, unit-refused, unit-ran, unit-done, unit-oscillates, unit-done-when, unit-oscillates-when, ternary-refused, ternary-start, ternary-ran, ternary-done, ternary-done-when, ternary-start-when, ternary-above}
+use Rattle.laws.proofs.Agreed.{below-bit}
+use Rattle.laws.proofs.Judged.{Numbered, any-none, judged-lowest, judge-append}
+use Rattle.laws.proofs.Cover.{one-reach}
+use Rattle.laws.proofs.Changes.{clean-changes}
+use Rattle.laws.proofs.RuleOne.{stepper}
+use Rattle.laws.proofs.Outcomes.{told, by-verdict, step-refused, step-done, unit-refused, unit-ran, unit-done, unit-oscillates, unit-done-when, unit-oscillates-when, ternary-refused, ternary-start, ternary-ran, ternary-done, ternary-done-when, ternary-start-when, ternary-above}
 
 -- the answer of what is judged is what judging the answers gives
 answer-of : (rs : List Rule) (refuse : Answer → Outcome) (accept : Outcome) → ((a : Answer) → refuse a .answer ≡ a) → given (judge rs) refuse accept .answer ≡ given (judge rs) (λ a. a) (accept .answer)
