@@ -1,5 +1,3 @@
--- What is proved of the checks: how the code finds a first place and a first broken rule, and what acceptance says.
+-- What is proved of the checks: how the code finds a first place, and what lengths within the bounds say.
 mod Finding
-mod Fitting
-mod Judging
-pub mod Acceptance
+pub mod Fitting

@@ -26,7 +26,7 @@ fn done() -> Answer
 pub fn check(kinds: &[u8], types: &[u8], gates: &[u16], sources: &[u16], drains: &[u16]) -> Answer
     ensures { λ r. ⌜ r ≡ checkAnswer (netOf (now (kinds .entry)) (now (types .entry)) (now (gates .entry)) (now (sources .entry)) (now (drains .entry))) ⌝ }
 {
-    match tables::judge_check(kinds, types, gates, sources, drains) {
+    match judges::judge_check(kinds, types, gates, sources, drains) {
         Verdict::Refused(a) => a,
         Verdict::Accepted => done(),
     }
@@ -47,7 +47,7 @@ fn fill_x(states: &mut [u8])
 pub fn reset(kinds: &[u8], states: &mut [u8]) -> Answer
     ensures { λ r. ⌜ Leaves (resetOutcome (now (kinds .entry)) (now (states .entry))) r (now (states .exit)) [] ⌝ }
 {
-    match tables::judge_reset(kinds, states) {
+    match judges::judge_reset(kinds, states) {
         Verdict::Refused(a) => a,
         Verdict::Accepted => {
             fill_x(states);
@@ -68,7 +68,7 @@ pub fn step(
 ) -> Answer
     ensures { λ r. ⌜ Leaves (stepOutcome (netOf (now (kinds .entry)) (now (types .entry)) (now (gates .entry)) (now (sources .entry)) (now (drains .entry))) (now (states .entry)) (now (work .entry))) r (now (states .exit)) (now (work .exit)) ⌝ }
 {
-    match tables::judge_step(kinds, states, types, gates, sources, drains, work) {
+    match judges::judge_step(kinds, states, types, gates, sources, drains, work) {
         Verdict::Refused(a) => a,
         Verdict::Accepted => accepted::take_step(
             kinds,
@@ -97,7 +97,7 @@ pub fn unit_run(
 ) -> Answer
     ensures { λ r. ⌜ Leaves (unitOutcome (netOf (now (kinds .entry)) (now (types .entry)) (now (gates .entry)) (now (sources .entry)) (now (drains .entry))) (now (states .entry)) (changesOf (now («change_nodes» .entry)) (now («change_states» .entry))) limit (now (work .entry))) r (now (states .exit)) (now (work .exit)) ⌝ }
 {
-    match tables::judge_unit(
+    match judges::judge_unit(
         kinds,
         states,
         types,
@@ -139,7 +139,7 @@ pub fn ternary_run(
 ) -> Answer
     ensures { λ r. ⌜ Leaves (ternaryOutcome (netOf (now (kinds .entry)) (now (types .entry)) (now (gates .entry)) (now (sources .entry)) (now (drains .entry))) (now (states .entry)) (changesOf (now («change_nodes» .entry)) (now («change_states» .entry))) (now (work .entry))) r (now (states .exit)) (now (work .exit)) ⌝ }
 {
-    match tables::judge_ternary(
+    match judges::judge_ternary(
         kinds,
         states,
         types,

@@ -3,7 +3,7 @@ use native.Mathlib.Omega.{arith}
 use mathlib.Core.Path.{refl, sym, _∙_}
 use borrow.Author.Needs.{needs}
 use borrow.Author.Tests.{not-true, not-false}
-use Rattle.tables.proofs.Acceptance.{ternary-accepted}
+use Rattle.judges.proofs.Acceptance.{ternary-accepted}
 use Rattle.twistdory.proofs.Running.{checked, start-leaves, ternary-leaves}
 use Rattle.twistdory.proofs.accepted.run_ternary.Statement.{statement}
 use Rattle.twistdory.proofs.accepted.run_ternary.Tie as tie

@@ -2,7 +2,7 @@
 use native.Mathlib.Omega.{arith}
 use mathlib.Core.Path.{refl}
 use borrow.Author.Needs.{needs}
-use Rattle.tables.proofs.Acceptance.{unit-accepted}
+use Rattle.judges.proofs.Acceptance.{unit-accepted}
 use Rattle.twistdory.proofs.Running.{checked, named, unit-leaves}
 use Rattle.twistdory.proofs.accepted.run_unit.Statement.{statement}
 use Rattle.twistdory.proofs.accepted.run_unit.Tie as tie

@@ -2,7 +2,7 @@
 use native.Mathlib.Omega.{arith}
 use mathlib.Core.Path.{refl}
 use borrow.Author.Needs.{needs}
-use Rattle.tables.proofs.Acceptance.{step-accepted}
+use Rattle.judges.proofs.Acceptance.{step-accepted}
 use Rattle.twistdory.proofs.Running.{checked, step-leaves}
 use Rattle.twistdory.proofs.accepted.take_step.Statement.{statement}
 use Rattle.twistdory.proofs.accepted.take_step.Tie as tie

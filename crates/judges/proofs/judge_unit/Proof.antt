@@ -5,10 +5,10 @@ use borrow.Author.Needs.{needs}
 use Rattle.model.specs.Net.{netOf}
 use Rattle.model.specs.Run.{changesOf}
 use Rattle.model.specs.Rules.{limitRule, runSizes, runRules, unitRules}
 use Rattle.tables.proofs.Fitting.{step-sized, run-sized}
-use Rattle.tables.proofs.Judging.{size-broken, size-kept, limit-broken, limit-kept}
-use Rattle.tables.proofs.judge_unit.Statement.{statement}
-use Rattle.tables.proofs.judge_unit.Tie as tie
+use Rattle.judges.proofs.Judging.{size-broken, size-kept, limit-broken, limit-kept}
+use Rattle.judges.proofs.judge_unit.Statement.{statement}
+use Rattle.judges.proofs.judge_unit.Tie as tie
 
 wrong-run-sizes-requires : tie.Need-wrong-run-sizes-requires
 wrong-run-sizes-requires c κs = search needs

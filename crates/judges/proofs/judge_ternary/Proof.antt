@@ -4,10 +4,10 @@ use borrow.Author.Needs.{needs}
 use Rattle.model.specs.Net.{netOf}
 use Rattle.model.specs.Run.{changesOf}
 use Rattle.model.specs.Rules.{runSizes, runRules, ternaryRules}
 use Rattle.tables.proofs.Fitting.{step-sized, run-sized}
-use Rattle.tables.proofs.Judging.{size-broken, size-kept}
-use Rattle.tables.proofs.judge_ternary.Statement.{statement}
-use Rattle.tables.proofs.judge_ternary.Tie as tie
+use Rattle.judges.proofs.Judging.{size-broken, size-kept}
+use Rattle.judges.proofs.judge_ternary.Statement.{statement}
+use Rattle.judges.proofs.judge_ternary.Tie as tie
 
 wrong-run-sizes-requires : tie.Need-wrong-run-sizes-requires
 wrong-run-sizes-requires c κs = search needs

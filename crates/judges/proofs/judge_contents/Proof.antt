@@ -3,9 +3,9 @@ use mathlib.Core.List.{[], _∷_}
 use borrow.Author.Needs.{needs}
 use Rattle.model.specs.Net.{netOf}
 use Rattle.model.specs.Rules.{kindRule, wireRule, stateRule}
-use Rattle.tables.proofs.Judging.{refused-first, accepted-first, rule-broken, rule-kept}
-use Rattle.tables.proofs.judge_contents.Statement.{statement}
-use Rattle.tables.proofs.judge_contents.Tie as tie
+use Rattle.judges.proofs.Judging.{refused-first, accepted-first, rule-broken, rule-kept}
+use Rattle.judges.proofs.judge_contents.Statement.{statement}
+use Rattle.judges.proofs.judge_contents.Tie as tie
 
 judge-tables-requires : tie.Need-judge-tables-requires
 judge-tables-requires c κs = search needs

@@ -4,9 +4,9 @@ use borrow.Author.Needs.{needs}
 use Rattle.model.specs.Net.{netOf}
 use Rattle.model.specs.Run.{changesOf}
 use Rattle.model.specs.Rules.{kindRule, wireRule, stateRule, changeRule, changeTests, runRules}
-use Rattle.tables.proofs.Judging.{refused-first, accepted-first, rule-broken, rule-kept}
-use Rattle.tables.proofs.judge_run.Statement.{statement}
-use Rattle.tables.proofs.judge_run.Tie as tie
+use Rattle.judges.proofs.Judging.{refused-first, accepted-first, rule-broken, rule-kept}
+use Rattle.judges.proofs.judge_run.Statement.{statement}
+use Rattle.judges.proofs.judge_run.Tie as tie
 
 judge-contents-requires : tie.Need-judge-contents-requires
 judge-contents-requires c κs = search needs

@@ -3,10 +3,10 @@ use mathlib.Core.Path.{sym, _∙_}
 use mathlib.Core.List.{[], _∷_}
 use borrow.Author.Needs.{needs}
 use Rattle.model.specs.Rules.{kindRule, resetSizes, resetRules}
 use Rattle.tables.proofs.Fitting.{reset-sized}
-use Rattle.tables.proofs.Judging.{size-broken, size-kept}
-use Rattle.tables.proofs.judge_reset.Statement.{statement}
-use Rattle.tables.proofs.judge_reset.Tie as tie
+use Rattle.judges.proofs.Judging.{size-broken, size-kept}
+use Rattle.judges.proofs.judge_reset.Statement.{statement}
+use Rattle.judges.proofs.judge_reset.Tie as tie
 
 wrong-reset-sizes-requires : tie.Need-wrong-reset-sizes-requires
 wrong-reset-sizes-requires c κs = search needs

@@ -1,9 +1,9 @@
 -- `judge_kinds` meets its contract: the search for a kind above 2 ends at the rule's first place or past its last. Assumes nothing.
 use borrow.Author.Needs.{needs}
 use Rattle.model.specs.Rules.{kindRule}
-use Rattle.tables.proofs.Judging.{rule-broken, rule-kept}
-use Rattle.tables.proofs.judge_kinds.Statement.{statement}
-use Rattle.tables.proofs.judge_kinds.Tie as tie
+use Rattle.judges.proofs.Judging.{rule-broken, rule-kept}
+use Rattle.judges.proofs.judge_kinds.Statement.{statement}
+use Rattle.judges.proofs.judge_kinds.Tie as tie
 
 first-above-requires : tie.Need-first-above-requires
 first-above-requires c κs = search needs

@@ -4,10 +4,10 @@ use mathlib.Core.List.{[], _∷_}
 use borrow.Author.Needs.{needs}
 use Rattle.model.specs.Net.{netOf}
 use Rattle.model.specs.Rules.{kindRule, wireRule, checkSizes, checkRules}
 use Rattle.tables.proofs.Fitting.{check-sized}
-use Rattle.tables.proofs.Judging.{size-broken, size-kept}
-use Rattle.tables.proofs.judge_check.Statement.{statement}
-use Rattle.tables.proofs.judge_check.Tie as tie
+use Rattle.judges.proofs.Judging.{size-broken, size-kept}
+use Rattle.judges.proofs.judge_check.Statement.{statement}
+use Rattle.judges.proofs.judge_check.Tie as tie
 
 wrong-check-sizes-requires : tie.Need-wrong-check-sizes-requires
 wrong-check-sizes-requires c κs = search needs

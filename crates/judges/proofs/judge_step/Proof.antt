@@ -4,10 +4,10 @@ use mathlib.Core.List.{[], _∷_}
 use borrow.Author.Needs.{needs}
 use Rattle.model.specs.Net.{netOf}
 use Rattle.model.specs.Rules.{kindRule, wireRule, stateRule, stepSizes, stepRules}
 use Rattle.tables.proofs.Fitting.{step-sized}
-use Rattle.tables.proofs.Judging.{size-broken, size-kept}
-use Rattle.tables.proofs.judge_step.Statement.{statement}
-use Rattle.tables.proofs.judge_step.Tie as tie
+use Rattle.judges.proofs.Judging.{size-broken, size-kept}
+use Rattle.judges.proofs.judge_step.Statement.{statement}
+use Rattle.judges.proofs.judge_step.Tie as tie
 
 wrong-step-sizes-requires : tie.Need-wrong-step-sizes-requires
 wrong-step-sizes-requires c κs = search needs
