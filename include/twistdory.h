@@ -10,7 +10,8 @@
    The caller lends tables and reads four numbers. There is nothing to
    initialise, to allocate or to free. No table, however malformed, makes a
    call trap or run on: each call checks what it is lent and refuses what it
-   cannot take, with a number that says why and a place that says where.
+   cannot take, with a number that says why and, where an entry of a table is
+   at fault, a place that says which.
 
    This file is the manual. It has, in this order:
 
@@ -23,8 +24,8 @@
 
    1  AN EXAMPLE
 
-   A whole program: an inverter with a pullup. Compile it with
-   `cc -Iinclude examples/inverter.c build/libtwistdory.a`. It prints
+   A whole program: an inverter with a pullup. Compile it with this header and
+   the library, as `cc inverter.c libtwistdory.a`. It prints
    "DONE after 1 step: in 1, out 0".
 
 ---- examples/inverter.c ----
@@ -93,7 +94,8 @@ extern "C" {
                   source and its drain. Source and drain are the two ends of
                   its channel; swapping them alters nothing. Both may be the
                   same node, or both inputs (the transistor then has no
-                  effect), and the gate may be one of the ends.
+                  effect), and the gate may be one of the ends. A D
+                  transistor's gate is not looked at, but has to be a node.
    change_nodes, change_states
                   two tables of equal length, one entry for each change: the
                   number of an input, and its new state. No node may be named
@@ -115,11 +117,13 @@ enum {
     TWISTDORY_X = 2  /* unknown */
 };
 
-/* Types of transistors. */
+/* Types of transistors. A depletion load, which an input can pull down, is no D
+   transistor: make the node that it loads a PULLUP. A D transistor from a power
+   input drives as hard as any input does. */
 enum {
     TWISTDORY_N = 0, /* closed when its gate is 1 */
     TWISTDORY_P = 1, /* closed when its gate is 0 */
-    TWISTDORY_D = 2  /* depletion: always closed */
+    TWISTDORY_D = 2  /* always closed, whatever its gate */
 };
 
 /* Bounds. A length outside them is refused by TWISTDORY_SIZE. */
@@ -351,8 +355,9 @@ void twistdory_ternary_run(const uint8_t *kinds, size_t kinds_length,
    nothing. Few sweeps are usual; a long chain of pass transistors listed from
    its far end takes about one sweep a node. A unit run evaluates at most one
    step more than its limit, a ternary run at most two more than twice the
-   number of nodes that are not inputs, and one for its start. The exact bound
-   and measured times are in docs/PERFORMANCE.md.
+   number of nodes that are not inputs, and one for its start. With the library's
+   sources come the exact bound (docs/PROMISES.md) and measured times
+   (docs/PERFORMANCE.md).
 */
 
 #ifdef __cplusplus
