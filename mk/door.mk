@@ -11,7 +11,7 @@
 #
 # LIBRARY names the archive in build/ that is checked. The stand-in is one: LIBRARY=libstandin.
 
-RATTLE_HOME ?= $(shell dirname $$(dirname $$(readlink -f $$(command -v rt || echo /opt/rattle/bin/rt))))
+RATTLE_HOME ?= $(shell dirname $$(dirname $$(readlink -f $$(command -v rt))))
 LIB_CRATE ?= door
 LIBRARY ?= libtwistdory
 SEED ?= 1

@@ -9,7 +9,7 @@
 #
 # What is missing and cannot be installed is said in one line; the exit status is then 1.
 set -u
-kit=${RATTLE_HOME:-/opt/rattle}
+kit=${RATTLE_HOME:-$(dirname "$(dirname "$(readlink -f "$(command -v rt)")")")}
 machine=$(uname -m)
 
 say() { printf 'toolchain: %s\n' "$*" >&2; }
