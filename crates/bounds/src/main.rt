@@ -145,13 +145,10 @@ fn work_areas() {
     step(b"step with state 3", &mut high, &mut exact);
 }
 
-// The limit; a run that ends exactly at it; changes; a settled and an unsettled start.
-fn runs() {
+// The limit, a run that ends exactly at it, and a settled and an unsettled start.
+fn limits() {
     let none: &[u16] = &[0u16; 0];
-    let first = [0u16];
     let second = [1u16];
-    let third = [2u16];
-    let fourth = [3u16];
     let mut ready = [0u8, 1, 0];
     let mut moving = [0u8, 1, 1];
     unit_run(b"unit run with limit 10001", &mut moving, none, b"", 10001);
@@ -163,6 +160,22 @@ fn runs() {
     );
     unit_run(b"unit run with limit 10000", &mut moving, none, b"", 10000);
     ternary_run(b"ternary run from a settled start", &mut ready, none, b"");
+    unit_run(
+        b"unit run that ends at its limit",
+        &mut ready,
+        &second,
+        b"\x00",
+        1,
+    );
+}
+
+// Changes of what is an input and of what is none.
+fn single_changes() {
+    let first = [0u16];
+    let second = [1u16];
+    let third = [2u16];
+    let fourth = [3u16];
+    let mut ready = [0u8, 1, 0];
     unit_run(
         b"unit run with an input that stays",
         &mut ready,
@@ -189,13 +202,6 @@ fn runs() {
         &mut ready,
         &second,
         b"\x03",
-        1,
-    );
-    unit_run(
-        b"unit run that ends at its limit",
-        &mut ready,
-        &second,
-        b"\x00",
         1,
     );
 }
@@ -306,48 +312,54 @@ fn ring_runs(
     show(b"ternary run of 4096 nodes and 8192 transistors", both);
 }
 
+fn ring_steps(kinds: &[u8], types: &[u8], gates: &[u16], sources: &[u16], drains: &[u16]) {
+    let mut low = [0u8; 4096];
+    let mut high = [1u8; 4096];
+    let mut short = [9u16; 32767];
+    let mut work = [9u16; 32768];
+    let less = b"step of 4096 nodes and 8192 transistors with 32767 cells";
+    ring_step(
+        less,
+        kinds,
+        &mut low,
+        types,
+        gates,
+        sources,
+        drains,
+        &mut short,
+    );
+    let exact = b"step of 4096 nodes and 8192 transistors with 32768 cells";
+    ring_step(
+        exact,
+        kinds,
+        &mut high,
+        types,
+        gates,
+        sources,
+        drains,
+        &mut work,
+    );
+}
+
 fn ring(sources: &[u16], drains: &[u16]) {
     let mut kinds = [0u8; 4096];
     kinds[0] = 2;
     let types = [2u8; 8192];
     let gates = [0u16; 8192];
-    let mut one = [0u8; 4096];
-    let mut two = [1u8; 4096];
-    let mut three = [0u8; 4096];
-    let mut four = [0u8; 4096];
-    let mut short = [9u16; 32767];
+    let mut low = [0u8; 4096];
+    let mut lower = [0u8; 4096];
     let mut work = [9u16; 32768];
-    let mut again = [9u16; 32768];
     let mut more = [9u16; 32769];
-    ring_step(
-        b"step of 4096 nodes and 8192 transistors with 32767 cells",
-        &kinds,
-        &mut one,
-        &types,
-        &gates,
-        sources,
-        drains,
-        &mut short,
-    );
-    ring_step(
-        b"step of 4096 nodes and 8192 transistors with 32768 cells",
-        &kinds,
-        &mut two,
-        &types,
-        &gates,
-        sources,
-        drains,
-        &mut work,
-    );
+    ring_steps(&kinds, &types, &gates, sources, drains);
     ring_runs(
         &kinds,
-        &mut three,
+        &mut low,
         &types,
         &gates,
         sources,
         drains,
-        &mut four,
-        &mut again,
+        &mut lower,
+        &mut work,
         &mut more,
     );
 }
@@ -363,7 +375,8 @@ fn main() {
     transistors();
     resets();
     work_areas();
-    runs();
+    limits();
+    single_changes();
     change_lists();
     let mut sources = [0u16; 8192];
     let mut drains = [0u16; 8192];
