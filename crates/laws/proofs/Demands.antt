@@ -10,10 +10,10 @@ use lib.Dec.{eqb}
 use borrow.Author.Tests.{eqb-true, not-false}
 use Rattle.model.specs.Places.{tab, iter, at}
 use Rattle.model.specs.Net.{Net, nodes, isInput, step}
-use Rattle.model.specs.Run.{Changes, entered, changed, limitOf, unitSteps, firstHalf, secondHalf}
+use Rattle.model.specs.Run.{Changes, entered, changed, limitOf}
 use Rattle.model.specs.Answer.{number, firstCount, secondCount}
 use Rattle.model.specs.Rules.{Rule, judge, given, cells, startRule, checkRules, resetRules, stepSizes, stepRules, runSizes, runRules, unitRules, ternaryRules}
-use Rattle.model.specs.Entries.{Outcome, untouched, altered, cleared, ranAnswer, checkAnswer, resetOutcome, stepOutcome, unitOutcome, ternaryOutcome}
+use Rattle.model.specs.Entries.{Outcome, untouched, cleared, stepTaken, unitRan, ternaryRan, checkAnswer, resetOutcome, stepOutcome, unitOutcome, ternaryOutcome}
 use Rattle.model.specs.Order.{_≼_}
 use Rattle.model.specs.Cover.{OneByOne}
 use Rattle.model.specs.Demands.{Clean, Told, Lowest, Enterable, Settles, Unsettled, Covered}
@@ -63,7 +63,7 @@ module _ (kinds s : List ℕ) where
 -- Step
 module _ (net : Net) (s w : List ℕ) where
   abbrev pub stepDone : Outcome
-  stepDone = record { answer = Done (altered s (step net s)) 0; states = step net s; work = cleared (cells net) w }
+  stepDone = stepTaken (step net) (cells net) s w
 
   step-numbered : Numbered 7 (stepRules net s w)
   unfolding stepRules
@@ -91,7 +91,7 @@ module _ (net : Net) (s w : List ℕ) where
 -- Unit run
 module _ (net : Net) (s : List ℕ) (ch : Changes) (limit : ℕ) (w : List ℕ) where
   abbrev pub unitEnd : Outcome
-  unitEnd = record { answer = ranAnswer (unitSteps (step net) s ch limit) (limitOf limit); states = (unitSteps (step net) s ch limit) .states; work = cleared (cells net) w }
+  unitEnd = unitRan (step net) (cells net) s ch limit w
 
   unit-numbered : Numbered 7 (unitRules net s ch limit w)
   unfolding unitRules runRules
@@ -146,12 +146,7 @@ module _ (net : Net) (s : List ℕ) (ch : Changes) (limit : ℕ) (w : List ℕ) 
 -- Ternary run
 module _ (net : Net) (s : List ℕ) (ch : Changes) (w : List ℕ) where
   abbrev pub ternaryEnd : Outcome
-  ternaryEnd =
-      record {
-        answer = Done ((firstHalf (nodes net) (step net) s ch) .count) ((secondHalf (nodes net) (step net) s ch) .count);
-        states = (secondHalf (nodes net) (step net) s ch) .states;
-        work = cleared (cells net) w;
-      }
+  ternaryEnd = ternaryRan (nodes net) (step net) (cells net) s ch w
 
   ternary-numbered : Numbered 6 (ternaryRules net s ch w)
   unfolding ternaryRules runRules

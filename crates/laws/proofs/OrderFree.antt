@@ -15,7 +15,7 @@ use Rattle.model.specs.Net.{Net, nodes, isInput, step}
 use Rattle.model.specs.Run.{Changes, Ran, entered, settle, limitOf, raised, lowered, unitSteps, firstHalf, secondHalf}
 use Rattle.model.specs.Answer.{number}
 use Rattle.model.specs.Rules.{Rule, judge, given, judged, cells, sizeRule, limitRule, kindRule, wireRule, stateRule, changeRule, startRule, wireTests, changeTests, checkSizes, checkRules, stepSizes, stepRules, runSizes, runRules, unitRules, ternaryRules}
-use Rattle.model.specs.Entries.{Outcome, untouched, altered, cleared, ranAnswer, checkAnswer, stepOutcome, unitOutcome, ternaryOutcome}
+use Rattle.model.specs.Entries.{Outcome, untouched, altered, cleared, ranAnswer, ternaryStarted, checkAnswer, stepOutcome, unitOutcome, ternaryOutcome}
 use Rattle.model.specs.Demands.{Clean, Enterable}
 use Rattle.model.specs.Alike.{Copy, Held, Alike, Listed, SameAnswer, SameRun}
 use Rattle.model.specs.declared.Answer.{Answer}
@@ -136,7 +136,7 @@ fits-unit net s ch limit w = fits (λ (o : Outcome). o .answer) (runSizes net s 
 
 -- a ternary run that is not refused
 abbrev started : Net → List ℕ → Changes → List ℕ → Outcome
-started net s ch w = judged (startRule (step net) s ∷ []) (untouched s (cleared (cells net) w)) (ternaryEnd net s ch w)
+started net s ch w = ternaryStarted (nodes net) (step net) (cells net) s ch w
 
 fits-ternary : (net : Net) (s : List ℕ) (ch : Changes) (w : List ℕ) → (number (ternaryOutcome net s ch w .answer) ≡ 1 → ⊥) → Unbroken (sizeRule (runSizes net s ch w))
 unfolding ternaryOutcome ternaryRules

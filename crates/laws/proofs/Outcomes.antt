@@ -12,7 +12,7 @@ use Rattle.model.specs.Places.{iter, same, at}
 use Rattle.model.specs.Run.{Changes, Ran, entered, settled, limitOf, unitSteps, firstHalf, secondHalf}
 use Rattle.model.specs.Answer.{number, firstCount, secondCount}
 use Rattle.model.specs.Rules.{Rule, judge, given, judged, startRule}
-use Rattle.model.specs.Entries.{Outcome, untouched, altered, cleared, stepUnder, ranAnswer, unitUnder, ternaryUnder}
+use Rattle.model.specs.Entries.{Outcome, untouched, cleared, ranAnswer, stepTaken, unitRan, ternaryRan, ternaryStarted, stepUnder, unitUnder, ternaryUnder}
 use Rattle.model.specs.Order.{_≼_}
 use Rattle.model.specs.Cover.{Stepper}
 use Rattle.model.specs.Demands.{Clean, Broken, Judged, Told, Enterable, Settles, Unsettled, Covered}
@@ -59,7 +59,7 @@ module _ (used : ℕ) (w : List ℕ) where
 -- a step
 module _ (rs : List Rule) (num : Numbered 7 rs) (f : List ℕ → List ℕ) (used : ℕ) (s w : List ℕ) where
   abbrev stepDone : Outcome
-  stepDone = record { answer = Done (altered s (f s)) 0; states = f s; work = cleared used w }
+  stepDone = stepTaken f used s w
 
   pub step-refused : 1 ≤ number (stepUnder rs f used s w .answer) → (stepUnder rs f used s w .states ≡ s) × (stepUnder rs f used s w .work ≡ w)
   step-refused =
@@ -75,7 +75,7 @@ module _ (rs : List Rule) (num : Numbered 7 rs) (f : List ℕ → List ℕ) (use
   ran = unitSteps f s ch limit
 
   abbrev unitEnd : Outcome
-  unitEnd = record { answer = ranAnswer ran (limitOf limit); states = ran .states; work = cleared used w }
+  unitEnd = unitRan f used s ch limit w
 
   abbrev unitRun : Outcome
   unitRun = unitUnder rs f used s ch limit w
@@ -139,10 +139,10 @@ module _ (rs : List Rule) (num : Numbered 7 rs) (f : List ℕ → List ℕ) (use
 -- a ternary run
 module _ (rs : List Rule) (num : Numbered 6 rs) (n : ℕ) (input : ℕ → Bool) (f : List ℕ → List ℕ) (used : ℕ) (s : List ℕ) (ch : Changes) (w : List ℕ) where
   abbrev ternaryEnd : Outcome
-  ternaryEnd = record { answer = Done ((firstHalf n f s ch) .count) ((secondHalf n f s ch) .count); states = (secondHalf n f s ch) .states; work = cleared used w }
+  ternaryEnd = ternaryRan n f used s ch w
 
   abbrev started : Outcome
-  started = judged (startRule f s ∷ []) (untouched s (cleared used w)) ternaryEnd
+  started = ternaryStarted n f used s ch w
 
   abbrev ternaryRun : Outcome
   ternaryRun = ternaryUnder rs n f used s ch w

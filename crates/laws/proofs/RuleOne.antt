@@ -22,7 +22,7 @@ use Rattle.laws.proofs.Places.{length-tab, getD-tab, every-at, every-of
 use Rattle.laws.proofs.Choices.{everyChoice-at, everyChoice-of, Within, choice-tab, choice-at, stand-mono}
 use Rattle.laws.proofs.Joined.{_∈_, Ends, Link, linked-at, linked-of, Walk, here, more, joined-walk, walk-joined}
 use Rattle.laws.proofs.Agreed.{agreed-cong, agreed-known}
-use Rattle.laws.proofs.Ways.{way-map, way-below, way-fine, way-input, way-start, way-top, definite-most, definite-way, none, none-from, from-none, fresh-says, from-down, tables-fresh, stepBy-at, stepBy-length, scheme-stepper}
+use Rattle.laws.proofs.Ways.{not-both, way-map, way-below, way-fine, way-input, way-start, way-top, definite-most, definite-way, none, none-from, from-none, fresh-says, from-down, tables-fresh, stepBy-at, stepBy-length, scheme-stepper}
 
 -- the choice c as how the transistors stand
 abbrev set-by : Bool → Stand
@@ -39,9 +39,6 @@ shut-in false e = let z : _≡_ {A = ℕ} 0 1 = cc in absurd (omega arith)
 able-in : (b : Bool) → (set-by b ≡ opened → ⊥) → b ≡ true
 able-in true h = refl
 able-in false h = absurd (h refl)
-
-not-both : (x : Stand) → x ≡ closed → x ≡ opened → ⊥
-not-both x a b = let z : _≡_ {A = ℕ} 0 1 = cc in omega arith
 
 fits-within : (x : Stand) (b : Bool) → Fits x b → Within (set-by b) x
 fits-within opened true h = absurd h

@@ -37,6 +37,9 @@ of-able opened h = absurd (h refl)
 of-able closed h = refl
 of-able unknown h = refl
 
+pub not-both : (x : Stand) → x ≡ closed → x ≡ opened → ⊥
+not-both x e o = let z : _≡_ {A = ℕ} 0 1 = cc in omega arith
+
 module _ (F : Frame) where
   pub way-map : {ok ok′ : ℕ → Type 0} {fine fine′ : ℕ → ℕ → Type 0} → ((t : ℕ) → t < F .links → ok t → ok′ t) → ((x j : ℕ) → x < F .size → fine x j → fine′ x j)
       → {u v k : ℕ} → Way F ok fine u v k → Way F ok′ fine′ u v k
@@ -163,9 +166,6 @@ module _ (F : Frame) (L : Lawful F) where
     abbrev Has : ℕ → Type 0
     Has v = (u j : ℕ) × Open u v j × (at D v ≤ j)
 
-    not-open : (x : Stand) → x ≡ closed → x ≡ opened → ⊥
-    not-open x e o = let z : _≡_ {A = ℕ} 0 1 = cc in omega arith
-
     has-along : (m : ℕ) → ((w : ℕ) → w < F .size → m < at D w → Has w) → {u v k : ℕ} → Definite F how u v k → at D v ≤ k → m ≤ k → Has v
     has-along m up {u} (source l f) d h = (u, F .own u, source l (λ i. d), d)
     has-along m up (pass {w = w} {k = k} p t v i j o f) d h = on (go (λ e. has-along m up p e (omega arith)) _ refl)
@@ -175,7 +175,7 @@ module _ (F : Frame) (L : Lawful F) where
         go rest false e = up w (way-below F p) (omega (arith, leb-false (at D w) k e))
 
         on : Has w → Has v
-        on r = (r .0, min (r .1) (F .ceiling t), pass (r .2) t v i j (not-open (how t) o) (omega (arith, definite-most p, r .3)), omega (arith, definite-most p, r .3))
+        on r = (r .0, min (r .1) (F .ceiling t), pass (r .2) t v i j (not-both (how t) o) (omega (arith, definite-most p, r .3)), omega (arith, definite-most p, r .3))
 
     has-from : (n m : ℕ) → F .top ≤ m + n → (w : ℕ) → w < F .size → m ≤ at D w → Has w
     has-from zero m h w l g =

@@ -30,24 +30,34 @@ altered s r = count (length s) (λ v. not (eqb (at r v) (at s v)))
 unfoldable pub cleared : ℕ → List ℕ → List ℕ
 cleared used w = tab (length w) (λ i. cond (ltb i used) 0 (at w i))
 
--- of any rules, and any step f of n nodes that uses so many work cells
-abbrev pub stepUnder : List Rule → (List ℕ → List ℕ) → ℕ → List ℕ → List ℕ → Outcome
-stepUnder rs f used s w = judged rs (untouched s w) (record { answer = Done (altered s (f s)) 0; states = f s; work = cleared used w })
-
 abbrev pub ranAnswer : Ran → ℕ → Answer
 ranAnswer r limit = cond (r .ends) (Done (r .count) 0) (Oscillates limit)
 
-abbrev pub unitUnder : List Rule → (List ℕ → List ℕ) → ℕ → List ℕ → Changes → ℕ → List ℕ → Outcome
-unitUnder rs f used s ch limit w =
-    judged rs (untouched s w)
-    (record { answer = ranAnswer (unitSteps f s ch limit) (limitOf limit); states = (unitSteps f s ch limit) .states; work = cleared used w })
+-- what is left where nothing is refused, of any step f of n nodes that uses so many work cells: a step, a unit run, both halves of a ternary run
+abbrev pub stepTaken : (List ℕ → List ℕ) → ℕ → List ℕ → List ℕ → Outcome
+stepTaken f used s w = record { answer = Done (altered s (f s)) 0; states = f s; work = cleared used w }
+
+abbrev pub unitRan : (List ℕ → List ℕ) → ℕ → List ℕ → Changes → ℕ → List ℕ → Outcome
+unitRan f used s ch limit w =
+    record { answer = ranAnswer (unitSteps f s ch limit) (limitOf limit); states = (unitSteps f s ch limit) .states; work = cleared used w }
+
+abbrev pub ternaryRan : ℕ → (List ℕ → List ℕ) → ℕ → List ℕ → Changes → List ℕ → Outcome
+ternaryRan n f used s ch w =
+    record { answer = Done ((firstHalf n f s ch) .count) ((secondHalf n f s ch) .count); states = (secondHalf n f s ch) .states; work = cleared used w }
 
 -- START comes last, and leaves the work area cleared
+abbrev pub ternaryStarted : ℕ → (List ℕ → List ℕ) → ℕ → List ℕ → Changes → List ℕ → Outcome
+ternaryStarted n f used s ch w = judged (startRule f s ∷ []) (untouched s (cleared used w)) (ternaryRan n f used s ch w)
+
+-- the same under any rules
+abbrev pub stepUnder : List Rule → (List ℕ → List ℕ) → ℕ → List ℕ → List ℕ → Outcome
+stepUnder rs f used s w = judged rs (untouched s w) (stepTaken f used s w)
+
+abbrev pub unitUnder : List Rule → (List ℕ → List ℕ) → ℕ → List ℕ → Changes → ℕ → List ℕ → Outcome
+unitUnder rs f used s ch limit w = judged rs (untouched s w) (unitRan f used s ch limit w)
+
 abbrev pub ternaryUnder : List Rule → ℕ → (List ℕ → List ℕ) → ℕ → List ℕ → Changes → List ℕ → Outcome
-ternaryUnder rs n f used s ch w =
-    judged rs (untouched s w)
-    (judged (startRule f s ∷ []) (untouched s (cleared used w))
-    (record { answer = Done ((firstHalf n f s ch) .count) ((secondHalf n f s ch) .count); states = (secondHalf n f s ch) .states; work = cleared used w }))
+ternaryUnder rs n f used s ch w = judged rs (untouched s w) (ternaryStarted n f used s ch w)
 
 -- the five entries. Check may write nothing, and reset is lent no work area
 unfoldable pub checkAnswer : Net → Answer

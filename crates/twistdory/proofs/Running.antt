@@ -3,16 +3,16 @@ use Prim.Native.Nat.{ℕ, _<_}
 use native.Mathlib.Omega.{arith}
 use mathlib.Core.Path.{_≡_, refl, ap, _∙_, sym}
 use mathlib.Core.Bool.{Bool, true, false, cond}
-use mathlib.Core.List.{List, [], _∷_}
+use mathlib.Core.List.{List}
 use borrow.Author.Tests.{ltb-false}
 use lib.ListN.{length}
 use lib.Seq.{ext-getD}
 use lib.Dec.{ltb}
 use Rattle.model.specs.Places.{at, first}
 use Rattle.model.specs.Net.{Net, nodes, step}
-use Rattle.model.specs.Run.{Changes, settled, limitOf, unitSteps, firstHalf, secondHalf}
-use Rattle.model.specs.Rules.{judge, judged, cells, startRule, stepRules, unitRules, ternaryRules}
-use Rattle.model.specs.Entries.{Outcome, untouched, cleared, altered, ranAnswer, stepOutcome, unitOutcome, ternaryOutcome, Leaves}
+use Rattle.model.specs.Run.{Changes, settled, limitOf, unitSteps}
+use Rattle.model.specs.Rules.{judge, judged, cells, stepRules, unitRules, ternaryRules}
+use Rattle.model.specs.Entries.{Outcome, untouched, cleared, stepTaken, unitRan, ternaryRan, ternaryStarted, stepOutcome, unitOutcome, ternaryOutcome, Leaves}
 use Rattle.model.specs.Demands.{Enterable}
 use Rattle.model.specs.declared.Answer.the-variants.{Done, Start, Oscillates}
 use Rattle.model.specs.declared.Verdict.the-variants.{Accepted}
@@ -55,15 +55,10 @@ cleared-spared net w w′ e h =
 
 -- a ternary run after the other rules: START, or both halves
 abbrev halves : Net → List ℕ → Changes → List ℕ → Outcome
-halves net s ch w =
-    record {
-      answer = Done (firstHalf (nodes net) (step net) s ch .count) (secondHalf (nodes net) (step net) s ch .count);
-      states = secondHalf (nodes net) (step net) s ch .states;
-      work = cleared (cells net) w;
-    }
+halves net s ch w = ternaryRan (nodes net) (step net) (cells net) s ch w
 
 abbrev started : Net → List ℕ → Changes → List ℕ → Outcome
-started net s ch w = judged (startRule (step net) s ∷ []) (untouched s (cleared (cells net) w)) (halves net s ch w)
+started net s ch w = ternaryStarted (nodes net) (step net) (cells net) s ch w
 
 unsettled : (net : Net) (s : List ℕ) (ch : Changes) (w : List ℕ) → settled (step net) s ≡ false → untouched s (cleared (cells net) w) Start ≡ started net s ch w
 unsettled net s ch w h = rw (judged, judge, first, h)
@@ -79,7 +74,7 @@ module _ (net : Net) (s w w₁ w′ : List ℕ) (same : length w₁ ≡ length w
   unfolding stepOutcome
   step-leaves e k s′ st =
       leaves-at
-      (accepted-gives (stepRules net s w) (untouched s w) (record { answer = Done (altered s (step net s)) 0; states = step net s; work = cleared (cells net) w }) Accepted (sym e) refl)
+      (accepted-gives (stepRules net s w) (untouched s w) (stepTaken (step net) (cells net) s w) Accepted (sym e) refl)
       (record { answers = ap (λ (j : ℕ). Done j 0) (st .count); states-left = st .states; work-left = wiped (st .spared) })
 
   pub unit-leaves : (ch : Changes) (limit : ℕ) → judge (unitRules net s ch limit w) ≡ Accepted → (b : Bool) (k : ℕ) (s′ : List ℕ) → Ended net (λ f. unitSteps f s ch limit) w b k s′ w₁
@@ -88,7 +83,7 @@ module _ (net : Net) (s w w₁ w′ : List ℕ) (same : length w₁ ≡ length w
   unit-leaves ch limit e b k s′ en =
       leaves-at
       (accepted-gives (unitRules net s ch limit w) (untouched s w)
-      (record { answer = ranAnswer (unitSteps (step net) s ch limit) (limitOf limit); states = unitSteps (step net) s ch limit .states; work = cleared (cells net) w }) Accepted (sym e) refl)
+      (unitRan (step net) (cells net) s ch limit w) Accepted (sym e) refl)
       (record { answers = rw (en .ends, en .count) refl; states-left = en .states; work-left = wiped (en .spared) })
 
   -- START, with the states as they came
