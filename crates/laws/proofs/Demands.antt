@@ -22,7 +22,7 @@ use Rattle.model.specs.declared.Answer.the-variants.{Done, Oscillates}
 use Rattle.model.specs.declared.Verdict.{Verdict}
 use Rattle.model.specs.declared.Verdict.the-variants.{Accepted, Refused}
 use Rattle.laws.proofs.Agreed.{below-bit}
-use Rattle.laws.proofs.Judged.{Numbered, any-none, judged-lowest, judge-append}
+use Rattle.laws.proofs.Judged.{Numbered, broken-number, any-none, judged-lowest, judge-append}
 use Rattle.laws.proofs.Cover.{one-reach}
 use Rattle.laws.proofs.Changes.{clean-changes}
 use Rattle.laws.proofs.RuleOne.{stepper}
@@ -59,6 +59,22 @@ module _ (kinds s : List ℕ) where
   pub reset-untouched : 1 ≤ number (resetOutcome kinds s .answer) → resetOutcome kinds s .states ≡ s
   unfolding resetOutcome
   reset-untouched = by-verdict (λ (o : Outcome). 1 ≤ number (o .answer) → o .states ≡ s) (resetRules kinds s) (untouched s []) resetDone (λ c l. absurd (omega arith)) (λ a b l. refl)
+
+  pub reset-lowest : Lowest (resetRules kinds s) (resetOutcome kinds s .answer)
+  unfolding resetOutcome resetRules
+  reset-lowest =
+      rw (answer-of (resetRules kinds s) (untouched s []) resetDone (λ a. refl)) (judged-lowest 1 (resetRules kinds s) (resetDone .answer) (1, omega arith, λ p. refl, (3, omega arith, λ p. refl, tt)))
+
+  reset-numbered : Numbered 7 (resetRules kinds s)
+  unfolding resetRules
+  reset-numbered = (λ p. omega arith, (λ p. omega arith, tt))
+
+  -- "Every state becomes X"
+  pub reset-takes : number (resetOutcome kinds s .answer) ≡ 0 → resetOutcome kinds s ≡ resetDone
+  unfolding resetOutcome
+  reset-takes =
+      by-verdict (λ (o : Outcome). number (o .answer) ≡ 0 → o ≡ resetDone) (resetRules kinds s) (untouched s []) resetDone (λ c e. refl)
+      (λ a b e. absurd (omega (arith, broken-number 7 (resetRules kinds s) a reset-numbered b .0)))
 
 -- Step
 module _ (net : Net) (s w : List ℕ) where

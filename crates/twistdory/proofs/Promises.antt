@@ -4,13 +4,14 @@ use Prim.Native.Nat.{ℕ, _≤_, _<_}
 use mathlib.Core.Path.{_≡_, refl, ap, sym, subst}
 use mathlib.Core.Bool.{Bool, true}
 use mathlib.Core.Logic.{_⊎_, _↔_}
-use mathlib.Core.List.{List}
-use Rattle.model.specs.Places.{at}
+use mathlib.Core.List.{List, []}
+use lib.ListN.{length}
+use Rattle.model.specs.Places.{tab, at}
 use Rattle.model.specs.Net.{Net, nodes, isInput, stands, joined, setState, step}
 use Rattle.model.specs.Run.{Changes, entered, changed, limitOf}
 use Rattle.model.specs.Answer.{number, firstCount, secondCount}
-use Rattle.model.specs.Rules.{cells, stepRules, unitRules}
-use Rattle.model.specs.Entries.{Outcome, cleared, altered, stepOutcome, unitOutcome, ternaryOutcome, Leaves}
+use Rattle.model.specs.Rules.{cells, checkRules, resetRules, stepRules, unitRules}
+use Rattle.model.specs.Entries.{Outcome, cleared, altered, checkAnswer, resetOutcome, stepOutcome, unitOutcome, ternaryOutcome, Leaves}
 use Rattle.model.specs.Order.{_≼_}
 use Rattle.model.specs.Cover.{OneByOne}
 use Rattle.model.specs.Demands.{Choice, Lowest, Settles, Unsettled, Covered}
@@ -18,13 +19,29 @@ use Rattle.model.specs.Alike.{Alike, SameAnswer, SameRun}
 use Rattle.model.specs.declared.Answer.{Answer}
 use Rattle.model.specs.declared.Answer.the-variants.{Oscillates}
 use Rattle.laws.proofs.RuleOne.{Inner, step-exactly}
-use Rattle.laws.proofs.Demands.{allRules, step-lowest, step-untouched, step-takes, unit-lowest, unit-untouched, unit-settles, unit-at-limit, unit-runs, ternary-lowest, ternary-untouched, ternary-unsettled, ternary-settles, ternary-covers, ternary-runs, unit-below}
+use Rattle.laws.proofs.Demands.{check-lowest, reset-lowest, reset-untouched, reset-takes, allRules, step-lowest, step-untouched, step-takes, unit-lowest, unit-untouched, unit-settles, unit-at-limit, unit-runs, ternary-lowest, ternary-untouched, ternary-unsettled, ternary-settles, ternary-covers, ternary-runs, unit-below}
 use Rattle.laws.proofs.OrderFree.{step-order, unit-order, ternary-order}
 
 -- what holds of an outcome holds of what a contract leaves
 pub as-left : (P : Answer → List ℕ → List ℕ → Type 0) {o : Outcome} {r : Answer} {t u : List ℕ} → Leaves o r t u → P (o .answer) (o .states) (o .work) → P r t u
 as-left P {o} {r} {t} {u} l p =
     subst (λ (a : Answer). P a t u) (sym (l .answers)) (subst (λ (x : List ℕ). P (o .answer) x u) (sym (l .states-left)) (subst (λ (y : List ℕ). P (o .answer) (o .states) y) (sym (l .work-left)) p))
+
+-- Check
+pub check-first-refusal : (net : Net) {r : Answer} → r ≡ checkAnswer net → Lowest (checkRules net) r
+check-first-refusal net e = subst (Lowest (checkRules net)) (sym e) (check-lowest net)
+
+-- Reset, which is lent no work area
+module _ (kinds s : List ℕ) {r : Answer} {t : List ℕ} (contract : Leaves (resetOutcome kinds s) r t []) where
+  -- demand 1: a refusal leaves the states as they came, and is the lowest that applies
+  pub reset-refusal : 1 ≤ number r → t ≡ s
+  reset-refusal = as-left (λ (a : Answer) (x y : List ℕ). 1 ≤ number a → x ≡ s) contract (reset-untouched kinds s)
+
+  pub reset-first-refusal : Lowest (resetRules kinds s) r
+  reset-first-refusal = as-left (λ (a : Answer) (x y : List ℕ). Lowest (resetRules kinds s) a) contract (reset-lowest kinds s)
+
+  pub reset-done : number r ≡ 0 → t ≡ tab (length s) (λ v. 2)
+  reset-done = as-left (λ (a : Answer) (x y : List ℕ). number a ≡ 0 → x ≡ tab (length s) (λ v. 2)) contract (λ e. ap (λ (o : Outcome). o .states) (reset-takes kinds s e))
 
 -- Step
 module _ (net : Net) (s w : List ℕ) {r : Answer} {t u : List ℕ} (contract : Leaves (stepOutcome net s w) r t u) where
