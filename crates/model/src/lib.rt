@@ -1,5 +1,5 @@
-// What an entry answers, shared by the code and by the definitions of its meaning (specs/). The definitions of a network, of its
-// steps and of its runs are in specs/, what is proved of them in proofs/.
+// What an entry answers, shared by the code and by the definitions of its meaning. The definitions of a network, of its steps and of its
+// runs are in specs/; what is proved of them is the crate laws.
 ghost use mathlib.Core.Path.{_≡_};
 ghost use Rattle.model.specs.Net.{inputKind};
 ghost use Rattle.model.specs.Answer.{number, place, firstCount, secondCount};
