@@ -3,8 +3,7 @@
 use model::Answer;
 ghost use mathlib.Core.Path.{_≡_};
 ghost use mathlib.Core.List.{[]};
-ghost use Rattle.model.specs.Net.{netOf};
-ghost use Rattle.model.specs.Run.{changesOf};
+ghost use Rattle.model.specs.Lent.{lent, left, lentNet, lentChanges};
 ghost use Rattle.model.specs.Answer.{row};
 ghost use Rattle.model.specs.Entries.{checkAnswer, resetOutcome, stepOutcome, unitOutcome, ternaryOutcome};
 ghost use Rattle.door.specs.Told.{Told};
@@ -30,14 +29,14 @@ pub extern "C" fn twistdory_check(
     drains: &[u16],
     answer: &mut [u32; 4],
 )
-    ensures { λ _. ⌜ now (answer .exit) ≡ row (checkAnswer (netOf (now (kinds .entry)) (now (types .entry)) (now (gates .entry)) (now (sources .entry)) (now (drains .entry)))) ⌝ }
+    ensures { λ _. ⌜ left answer ≡ row (checkAnswer (lentNet kinds types gates sources drains)) ⌝ }
 {
     *answer = row_of(twistdory::check(kinds, types, gates, sources, drains));
 }
 
 #[no_mangle]
 pub extern "C" fn twistdory_reset(kinds: &[u8], states: &mut [u8], answer: &mut [u32; 4])
-    ensures { λ _. ⌜ Told (resetOutcome (now (kinds .entry)) (now (states .entry))) (now (answer .exit)) (now (states .exit)) [] ⌝ }
+    ensures { λ _. ⌜ Told (resetOutcome (lent kinds) (lent states)) (left answer) (left states) [] ⌝ }
 {
     *answer = row_of(twistdory::reset(kinds, states));
 }
@@ -53,7 +52,8 @@ pub extern "C" fn twistdory_step(
     work: &mut [u16],
     answer: &mut [u32; 4],
 )
-    ensures { λ _. ⌜ Told (stepOutcome (netOf (now (kinds .entry)) (now (types .entry)) (now (gates .entry)) (now (sources .entry)) (now (drains .entry))) (now (states .entry)) (now (work .entry))) (now (answer .exit)) (now (states .exit)) (now (work .exit)) ⌝ }
+    ensures { λ _. let net = lentNet kinds types gates sources drains in
+        ⌜ Told (stepOutcome net (lent states) (lent work)) (left answer) (left states) (left work) ⌝ }
 {
     *answer = row_of(twistdory::step(kinds, states, types, gates, sources, drains, work));
 }
@@ -72,7 +72,9 @@ pub extern "C" fn twistdory_unit_run(
     work: &mut [u16],
     answer: &mut [u32; 4],
 )
-    ensures { λ _. ⌜ Told (unitOutcome (netOf (now (kinds .entry)) (now (types .entry)) (now (gates .entry)) (now (sources .entry)) (now (drains .entry))) (now (states .entry)) (changesOf (now («change_nodes» .entry)) (now («change_states» .entry))) limit (now (work .entry))) (now (answer .exit)) (now (states .exit)) (now (work .exit)) ⌝ }
+    ensures { λ _. let net = lentNet kinds types gates sources drains in
+        let changes = lentChanges «change_nodes» «change_states» in
+        ⌜ Told (unitOutcome net (lent states) changes limit (lent work)) (left answer) (left states) (left work) ⌝ }
 {
     *answer = row_of(twistdory::unit_run(
         kinds,
@@ -101,7 +103,9 @@ pub extern "C" fn twistdory_ternary_run(
     work: &mut [u16],
     answer: &mut [u32; 4],
 )
-    ensures { λ _. ⌜ Told (ternaryOutcome (netOf (now (kinds .entry)) (now (types .entry)) (now (gates .entry)) (now (sources .entry)) (now (drains .entry))) (now (states .entry)) (changesOf (now («change_nodes» .entry)) (now («change_states» .entry))) (now (work .entry))) (now (answer .exit)) (now (states .exit)) (now (work .exit)) ⌝ }
+    ensures { λ _. let net = lentNet kinds types gates sources drains in
+        let changes = lentChanges «change_nodes» «change_states» in
+        ⌜ Told (ternaryOutcome net (lent states) changes (lent work)) (left answer) (left states) (left work) ⌝ }
 {
     *answer = row_of(twistdory::ternary_run(
         kinds,

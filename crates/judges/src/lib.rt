@@ -17,15 +17,14 @@ ghost use mathlib.Core.Path.{_≡_};
 ghost use mathlib.Core.List.{[], _∷_};
 ghost use lib.ListN.{length};
 ghost use Rattle.model.specs.Bounds.{mostNodes};
-ghost use Rattle.model.specs.Net.{netOf};
-ghost use Rattle.model.specs.Run.{changesOf};
+ghost use Rattle.model.specs.Lent.{netNow, changesNow, lent, lentNet, lentChanges};
 ghost use Rattle.model.specs.Rules.{judge, kindRule, wireRule, stateRule, checkRules, resetRules, stepRules, runRules, unitRules, ternaryRules};
-ghost use Rattle.tables.specs.Lent.{Sized, SizedChanges};
+ghost use Rattle.basis.specs.Sound.{Sized, SizedChanges};
 
 // The kinds.
 fn judge_kinds(kinds: &[u8]) -> Verdict
     requires { ⌜ length (now kinds) ≤ mostNodes ⌝ }
-    ensures { λ r. ⌜ r ≡ judge (kindRule (now (kinds .entry)) ∷ []) ⌝ }
+    ensures { λ r. ⌜ r ≡ judge (kindRule (lent kinds) ∷ []) ⌝ }
 {
     let v = first_above(kinds, HIGHEST_KIND);
     if v < kinds.len() {
@@ -43,8 +42,8 @@ fn judge_tables(
     sources: &[u16],
     drains: &[u16],
 ) -> Verdict
-    requires { ⌜ Sized (netOf (now kinds) (now types) (now gates) (now sources) (now drains)) ⌝ }
-    ensures { λ r. ⌜ r ≡ judge (kindRule (now (kinds .entry)) ∷ wireRule (netOf (now (kinds .entry)) (now (types .entry)) (now (gates .entry)) (now (sources .entry)) (now (drains .entry))) ∷ []) ⌝ }
+    requires { ⌜ Sized (netNow kinds types gates sources drains) ⌝ }
+    ensures { λ r. ⌜ r ≡ judge (kindRule (lent kinds) ∷ wireRule (lentNet kinds types gates sources drains) ∷ []) ⌝ }
 {
     let verdict = judge_kinds(kinds);
     let Verdict::Accepted = verdict else {
@@ -67,8 +66,9 @@ fn judge_contents(
     sources: &[u16],
     drains: &[u16],
 ) -> Verdict
-    requires { ⌜ Sized (netOf (now kinds) (now types) (now gates) (now sources) (now drains)) × (length (now states) ≡ length (now kinds)) ⌝ }
-    ensures { λ r. ⌜ r ≡ judge (kindRule (now (kinds .entry)) ∷ wireRule (netOf (now (kinds .entry)) (now (types .entry)) (now (gates .entry)) (now (sources .entry)) (now (drains .entry))) ∷ stateRule (now (states .entry)) ∷ []) ⌝ }
+    requires { ⌜ Sized (netNow kinds types gates sources drains) × (length (now states) ≡ length (now kinds)) ⌝ }
+    ensures { λ r. let net = lentNet kinds types gates sources drains in
+        ⌜ r ≡ judge (kindRule (lent kinds) ∷ wireRule net ∷ stateRule (lent states) ∷ []) ⌝ }
 {
     let verdict = judge_tables(kinds, types, gates, sources, drains);
     let Verdict::Accepted = verdict else {
@@ -93,8 +93,10 @@ fn judge_run(
     named: &[u16],
     values: &[u8],
 ) -> Verdict
-    requires { ⌜ Sized (netOf (now kinds) (now types) (now gates) (now sources) (now drains)) × (length (now states) ≡ length (now kinds)) × SizedChanges (changesOf (now named) (now values)) ⌝ }
-    ensures { λ r. ⌜ r ≡ judge (runRules (netOf (now (kinds .entry)) (now (types .entry)) (now (gates .entry)) (now (sources .entry)) (now (drains .entry))) (now (states .entry)) (changesOf (now (named .entry)) (now (values .entry)))) ⌝ }
+    requires { let net = netNow kinds types gates sources drains in
+        ⌜ Sized net × (length (now states) ≡ length (now kinds)) × SizedChanges (changesNow named values) ⌝ }
+    ensures { λ r. let net = lentNet kinds types gates sources drains in
+        ⌜ r ≡ judge (runRules net (lent states) (lentChanges named values)) ⌝ }
 {
     let verdict = judge_contents(kinds, states, types, gates, sources, drains);
     let Verdict::Accepted = verdict else {
@@ -116,7 +118,7 @@ pub fn judge_check(
     sources: &[u16],
     drains: &[u16],
 ) -> Verdict
-    ensures { λ r. ⌜ r ≡ judge (checkRules (netOf (now (kinds .entry)) (now (types .entry)) (now (gates .entry)) (now (sources .entry)) (now (drains .entry)))) ⌝ }
+    ensures { λ r. ⌜ r ≡ judge (checkRules (lentNet kinds types gates sources drains)) ⌝ }
 {
     if wrong_check_sizes(kinds, types, gates, sources, drains) {
         return Verdict::Refused(Answer::Size);
@@ -126,7 +128,7 @@ pub fn judge_check(
 
 // What reset is lent. The old states are not tested.
 pub fn judge_reset(kinds: &[u8], states: &[u8]) -> Verdict
-    ensures { λ r. ⌜ r ≡ judge (resetRules (now (kinds .entry)) (now (states .entry))) ⌝ }
+    ensures { λ r. ⌜ r ≡ judge (resetRules (lent kinds) (lent states)) ⌝ }
 {
     if wrong_reset_sizes(kinds, states) {
         return Verdict::Refused(Answer::Size);
@@ -144,7 +146,7 @@ pub fn judge_step(
     drains: &[u16],
     work: &[u16],
 ) -> Verdict
-    ensures { λ r. ⌜ r ≡ judge (stepRules (netOf (now (kinds .entry)) (now (types .entry)) (now (gates .entry)) (now (sources .entry)) (now (drains .entry))) (now (states .entry)) (now (work .entry))) ⌝ }
+    ensures { λ r. ⌜ r ≡ judge (stepRules (lentNet kinds types gates sources drains) (lent states) (lent work)) ⌝ }
 {
     if wrong_step_sizes(kinds, states, types, gates, sources, drains, work) {
         return Verdict::Refused(Answer::Size);
@@ -165,7 +167,8 @@ pub fn judge_unit(
     limit: u32,
     work: &[u16],
 ) -> Verdict
-    ensures { λ r. ⌜ r ≡ judge (unitRules (netOf (now (kinds .entry)) (now (types .entry)) (now (gates .entry)) (now (sources .entry)) (now (drains .entry))) (now (states .entry)) (changesOf (now (named .entry)) (now (values .entry))) limit (now (work .entry))) ⌝ }
+    ensures { λ r. let net = lentNet kinds types gates sources drains in
+        ⌜ r ≡ judge (unitRules net (lent states) (lentChanges named values) limit (lent work)) ⌝ }
 {
     if wrong_run_sizes(
         kinds,
@@ -198,7 +201,8 @@ pub fn judge_ternary(
     values: &[u8],
     work: &[u16],
 ) -> Verdict
-    ensures { λ r. ⌜ r ≡ judge (ternaryRules (netOf (now (kinds .entry)) (now (types .entry)) (now (gates .entry)) (now (sources .entry)) (now (drains .entry))) (now (states .entry)) (changesOf (now (named .entry)) (now (values .entry))) (now (work .entry))) ⌝ }
+    ensures { λ r. let net = lentNet kinds types gates sources drains in
+        ⌜ r ≡ judge (ternaryRules net (lent states) (lentChanges named values) (lent work)) ⌝ }
 {
     if wrong_run_sizes(
         kinds,

@@ -22,7 +22,7 @@ use Rattle.model.specs.declared.Answer.the-variants.{Done, Oscillates}
 use Rattle.model.specs.declared.Verdict.{Verdict}
 use Rattle.model.specs.declared.Verdict.the-variants.{Accepted, Refused}
 use Rattle.laws.proofs.Agreed.{below-bit}
-use Rattle.laws.proofs.Judged.{Numbered, broken-number, any-none, judged-lowest, judge-append}
+use Rattle.laws.proofs.Judged.{Numbers, none, also, Numbered, numbered, sorted, broken-number, any-none, judged-lowest, judge-append}
 use Rattle.laws.proofs.Cover.{one-reach}
 use Rattle.laws.proofs.Changes.{clean-changes}
 use Rattle.laws.proofs.RuleOne.{stepper}
@@ -42,9 +42,13 @@ module _ (net : Net) where
   unfolding checkAnswer
   check-told = told (checkRules net) (λ a. a) (Done 0 0)
 
+  check-numbers : Numbers (1 ∷ 3 ∷ 4 ∷ []) (checkRules net)
+  unfolding checkRules
+  check-numbers = also (λ p. refl) (also (λ p. refl) (also (λ p. refl) none))
+
   pub check-lowest : Lowest (checkRules net) (checkAnswer net)
-  unfolding checkAnswer checkRules
-  check-lowest = judged-lowest 1 (checkRules net) (Done 0 0) (1, omega arith, λ p. refl, (3, omega arith, λ p. refl, (4, omega arith, λ p. refl, tt)))
+  unfolding checkAnswer
+  check-lowest = judged-lowest 1 (checkRules net) (Done 0 0) (sorted 1 check-numbers refl)
 
 -- Reset
 module _ (kinds s : List ℕ) where
@@ -60,30 +64,36 @@ module _ (kinds s : List ℕ) where
   unfolding resetOutcome
   reset-untouched = by-verdict (λ (o : Outcome). 1 ≤ number (o .answer) → o .states ≡ s) (resetRules kinds s) (untouched s []) resetDone (λ c l. absurd (omega arith)) (λ a b l. refl)
 
-  pub reset-lowest : Lowest (resetRules kinds s) (resetOutcome kinds s .answer)
-  unfolding resetOutcome resetRules
-  reset-lowest =
-      rw (answer-of (resetRules kinds s) (untouched s []) resetDone (λ a. refl)) (judged-lowest 1 (resetRules kinds s) (resetDone .answer) (1, omega arith, λ p. refl, (3, omega arith, λ p. refl, tt)))
-
-  reset-numbered : Numbered 7 (resetRules kinds s)
+  reset-numbers : Numbers (1 ∷ 3 ∷ []) (resetRules kinds s)
   unfolding resetRules
-  reset-numbered = (λ p. omega arith, (λ p. omega arith, tt))
+  reset-numbers = also (λ p. refl) (also (λ p. refl) none)
+
+  pub reset-lowest : Lowest (resetRules kinds s) (resetOutcome kinds s .answer)
+  unfolding resetOutcome
+  reset-lowest =
+      rw (answer-of (resetRules kinds s) (untouched s []) resetDone (λ a. refl)) (judged-lowest 1 (resetRules kinds s) (resetDone .answer) (sorted 1 reset-numbers refl))
+
+  reset-numbered : Numbered 8 (resetRules kinds s)
+  reset-numbered = numbered 8 reset-numbers refl
 
   -- "Every state becomes X"
   pub reset-takes : number (resetOutcome kinds s .answer) ≡ 0 → resetOutcome kinds s ≡ resetDone
   unfolding resetOutcome
   reset-takes =
       by-verdict (λ (o : Outcome). number (o .answer) ≡ 0 → o ≡ resetDone) (resetRules kinds s) (untouched s []) resetDone (λ c e. refl)
-      (λ a b e. absurd (omega (arith, broken-number 7 (resetRules kinds s) a reset-numbered b .0)))
+      (λ a b e. absurd (omega (arith, broken-number 8 (resetRules kinds s) a reset-numbered b .0)))
 
 -- Step
 module _ (net : Net) (s w : List ℕ) where
   abbrev pub stepDone : Outcome
   stepDone = stepTaken (step net) (cells net) s w
 
-  step-numbered : Numbered 7 (stepRules net s w)
+  step-numbers : Numbers (1 ∷ 3 ∷ 4 ∷ 5 ∷ []) (stepRules net s w)
   unfolding stepRules
-  step-numbered = (λ p. omega arith, (λ p. omega arith, (λ p. omega arith, (λ p. omega arith, tt))))
+  step-numbers = also (λ p. refl) (also (λ p. refl) (also (λ p. refl) (also (λ p. refl) none)))
+
+  step-numbered : Numbered 8 (stepRules net s w)
+  step-numbered = numbered 8 step-numbers refl
 
   pub step-told : Told (stepRules net s w) (untouched s w) stepDone (stepOutcome net s w)
   unfolding stepOutcome
@@ -99,36 +109,37 @@ module _ (net : Net) (s w : List ℕ) where
   step-takes = step-done (stepRules net s w) step-numbered (step net) (cells net) s w
 
   pub step-lowest : Lowest (stepRules net s w) (stepOutcome net s w .answer)
-  unfolding stepOutcome stepRules
+  unfolding stepOutcome
   step-lowest =
-      rw (answer-of (stepRules net s w) (untouched s w) stepDone (λ a. refl))
-      (judged-lowest 1 (stepRules net s w) (stepDone .answer) (1, omega arith, λ p. refl, (3, omega arith, λ p. refl, (4, omega arith, λ p. refl, (5, omega arith, λ p. refl, tt)))))
+      rw (answer-of (stepRules net s w) (untouched s w) stepDone (λ a. refl)) (judged-lowest 1 (stepRules net s w) (stepDone .answer) (sorted 1 step-numbers refl))
 
 -- Unit run
 module _ (net : Net) (s : List ℕ) (ch : Changes) (limit : ℕ) (w : List ℕ) where
   abbrev pub unitEnd : Outcome
   unitEnd = unitRan (step net) (cells net) s ch limit w
 
-  unit-numbered : Numbered 7 (unitRules net s ch limit w)
+  unit-numbers : Numbers (1 ∷ 2 ∷ 3 ∷ 4 ∷ 5 ∷ 6 ∷ []) (unitRules net s ch limit w)
   unfolding unitRules runRules
-  unit-numbered = (λ p. omega arith, (λ p. omega arith, (λ p. omega arith, (λ p. omega arith, (λ p. omega arith, (λ p. omega arith, tt))))))
+  unit-numbers = also (λ p. refl) (also (λ p. refl) (also (λ p. refl) (also (λ p. refl) (also (λ p. refl) (also (λ p. refl) none)))))
+
+  unit-numbered : Numbered 8 (unitRules net s ch limit w)
+  unit-numbered = numbered 8 unit-numbers refl
 
   pub unit-told : Told (unitRules net s ch limit w) (untouched s w) unitEnd (unitOutcome net s ch limit w)
   unfolding unitOutcome
   unit-told = told (unitRules net s ch limit w) (untouched s w) unitEnd
 
   pub unit-lowest : Lowest (unitRules net s ch limit w) (unitOutcome net s ch limit w .answer)
-  unfolding unitOutcome unitRules runRules
+  unfolding unitOutcome
   unit-lowest =
       rw (answer-of (unitRules net s ch limit w) (untouched s w) unitEnd (λ a. refl))
-      (judged-lowest 1 (unitRules net s ch limit w) (unitEnd .answer)
-      (1, omega arith, λ p. refl, (2, omega arith, λ p. refl, (3, omega arith, λ p. refl, (4, omega arith, λ p. refl, (5, omega arith, λ p. refl, (6, omega arith, λ p. refl, tt)))))))
+      (judged-lowest 1 (unitRules net s ch limit w) (unitEnd .answer) (sorted 1 unit-numbers refl))
 
   -- "Refused tables and refused changes leave the node states as they came"
   pub unit-untouched : 1 ≤ number (unitOutcome net s ch limit w .answer) → number (unitOutcome net s ch limit w .answer) ≤ 7
       → (unitOutcome net s ch limit w .states ≡ s) × (unitOutcome net s ch limit w .work ≡ w)
   unfolding unitOutcome
-  unit-untouched = unit-refused (unitRules net s ch limit w) unit-numbered (step net) (cells net) s ch limit w
+  unit-untouched l h = unit-refused (unitRules net s ch limit w) unit-numbered (step net) (cells net) s ch limit w l (λ e. omega arith)
 
   -- "A unit run repeats the step until nothing moves": the count is the least that settles
   pub unit-settles : number (unitOutcome net s ch limit w .answer) ≡ 0
@@ -164,9 +175,12 @@ module _ (net : Net) (s : List ℕ) (ch : Changes) (w : List ℕ) where
   abbrev pub ternaryEnd : Outcome
   ternaryEnd = ternaryRan (nodes net) (step net) (cells net) s ch w
 
-  ternary-numbered : Numbered 6 (ternaryRules net s ch w)
+  ternary-numbers : Numbers (1 ∷ 3 ∷ 4 ∷ 5 ∷ 6 ∷ []) (ternaryRules net s ch w)
   unfolding ternaryRules runRules
-  ternary-numbered = (λ p. omega arith, (λ p. omega arith, (λ p. omega arith, (λ p. omega arith, (λ p. omega arith, tt)))))
+  ternary-numbers = also (λ p. refl) (also (λ p. refl) (also (λ p. refl) (also (λ p. refl) (also (λ p. refl) none))))
+
+  ternary-numbered : Numbered 7 (ternaryRules net s ch w)
+  ternary-numbered = numbered 7 ternary-numbers refl
 
   -- START is the last rule
   abbrev pub allRules : List Rule
@@ -185,17 +199,21 @@ module _ (net : Net) (s : List ℕ) (ch : Changes) (w : List ℕ) where
   unfolding ternaryOutcome
   ternary-told = rw ternary-answer (told allRules (λ a. a) (ternaryEnd .answer))
 
+  all-numbers : Numbers (1 ∷ 3 ∷ 4 ∷ 5 ∷ 6 ∷ 7 ∷ []) allRules
+  unfolding ternaryRules runRules
+  all-numbers = also (λ p. refl) (also (λ p. refl) (also (λ p. refl) (also (λ p. refl) (also (λ p. refl) (also (λ p. refl) none)))))
+
   pub ternary-lowest : Lowest allRules (ternaryOutcome net s ch w .answer)
-  unfolding ternaryOutcome ternaryRules runRules
+  unfolding ternaryOutcome
   ternary-lowest =
       rw ternary-answer
       (judged-lowest 1 allRules (ternaryEnd .answer)
-      (1, omega arith, λ p. refl, (3, omega arith, λ p. refl, (4, omega arith, λ p. refl, (5, omega arith, λ p. refl, (6, omega arith, λ p. refl, (7, omega arith, λ p. refl, tt)))))))
+      (sorted 1 all-numbers refl))
 
   pub ternary-untouched : 1 ≤ number (ternaryOutcome net s ch w .answer) → number (ternaryOutcome net s ch w .answer) ≤ 6
       → (ternaryOutcome net s ch w .states ≡ s) × (ternaryOutcome net s ch w .work ≡ w)
   unfolding ternaryOutcome
-  ternary-untouched = ternary-refused (ternaryRules net s ch w) ternary-numbered (nodes net) (isInput net) (step net) (cells net) s ch w
+  ternary-untouched l h = ternary-refused (ternaryRules net s ch w) ternary-numbered (nodes net) (isInput net) (step net) (cells net) s ch w l (λ e. omega arith)
 
   -- "An unsettled start leaves the node states as they came"
   pub ternary-unsettled : number (ternaryOutcome net s ch w .answer) ≡ 7

@@ -1,5 +1,5 @@
 -- A sequence whose measure falls with every change is still after as many steps as the measure; counts of places as measures. Assumes nothing.
-use Prim.Native.Nat.{ℕ, zero, suc, _≤_, _<_}
+use Prim.Native.Nat.{ℕ, zero, suc, _+_, _≤_, _<_}
 use native.Mathlib.Nat.{le-of-suc-le-suc, not-suc-le-zero}
 use native.Mathlib.Omega.{arith}
 use mathlib.Core.Path.{_≡_, refl, ap, _∙_, sym}
@@ -39,6 +39,26 @@ count-lt (suc n) p q h (suc k) l a b =
 pub count-all : (n : ℕ) (p : ℕ → Bool) → count n p ≤ n
 count-all zero p = omega arith
 count-all (suc n) p = omega (arith, one-le (p zero) true (λ e. refl), count-all n (λ i. p (suc i)))
+
+pub count-same : (n : ℕ) (p q : ℕ → Bool) → ((i : ℕ) → i < n → p i ≡ q i) → count n p ≡ count n q
+count-same zero p q h = refl
+count-same (suc n) p q h =
+    omega (arith, ap {B = ℕ} (λ (b : Bool). cond b 1 0) (h zero (omega arith)), count-same n (λ i. p (suc i)) (λ i. q (suc i)) (λ i l. h (suc i) (omega arith)))
+
+pub count-suc : (n : ℕ) (p : ℕ → Bool) → count (suc n) p ≡ count n p + cond (p n) 1 0
+count-suc zero p = omega arith
+count-suc (suc n) p = omega (arith, count-suc n (λ i. p (suc i)))
+
+pub count-never : (n : ℕ) (p : ℕ → Bool) → ((i : ℕ) → i < n → p i ≡ false) → count n p ≡ 0
+count-never zero p h = refl
+count-never (suc n) p h = omega (arith, ap {B = ℕ} (λ (b : Bool). cond b 1 0) (h zero (omega arith)), count-never n (λ i. p (suc i)) (λ i l. h (suc i) (omega arith)))
+
+pub never-count : (n : ℕ) (p : ℕ → Bool) → count n p ≡ 0 → (i : ℕ) → i < n → p i ≡ false
+never-count n p e i l = go (p i) refl
+  where
+    go : (b : Bool) → p i ≡ b → p i ≡ false
+    go true q = absurd (omega (arith, count-lt n (λ j. false) p (λ j m f. absurd (false≢true f)) i l refl q))
+    go false q = q
 
 -- two tables of one length are equal, or differ at a place
 abbrev pub Differ : ℕ → List ℕ → List ℕ → Type 0

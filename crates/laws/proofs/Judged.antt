@@ -2,13 +2,13 @@
 use Prim.Native.Nat.{ℕ, zero, suc, _≤_, _<_}
 use native.Mathlib.Nat.{not-suc-le-zero, le-of-suc-le-suc}
 use native.Mathlib.Omega.{arith}
-use mathlib.Core.Path.{_≡_, refl, ap, _∙_, sym}
+use mathlib.Core.Path.{_≡_, refl, ap, _∙_, sym, subst}
 use mathlib.Core.Logic.{_⊎_, inl, inr}
-use mathlib.Core.Bool.{Bool, true, false, true≢false}
+use mathlib.Core.Bool.{Bool, true, false, not, _&&_, true≢false, and-eq-true-iff}
 use mathlib.Core.List.{List, [], _∷_, _++_}
 use lib.ListN.{getD}
-use lib.Dec.{ltb}
-use borrow.Author.Tests.{ltb-true, ltb-false}
+use lib.Dec.{eqb, ltb, leb}
+use borrow.Author.Tests.{eqb-false, ltb-true, ltb-false, leb-true, not-true}
 use Rattle.model.specs.Places.{any, first}
 use Rattle.model.specs.Answer.{number}
 use Rattle.model.specs.Rules.{Rule, judge, given}
@@ -100,6 +100,13 @@ judge-clean rs c = go (judge rs) refl (judge-says rs)
     go Accepted e j = e
     go (Refused a) e j = absurd (clean-unbroken rs a c j)
 
+-- no place breaks the rule; none breaks any of those that are accepted
+abbrev pub Kept : Rule → Type 0
+Kept r = (q : ℕ) → q < r .places → r .breaks q ≡ false
+
+pub clean : (rs : List Rule) → judge rs ≡ Accepted → Clean rs
+clean rs e = subst (λ (v : Verdict). Judged rs v) e (judge-says rs)
+
 -- a fact of each place that breaks a rule is a fact of the refusal
 abbrev pub Each : (Answer → Type 0) → List Rule → Type 0
 Each P [] = Unit {0}
@@ -109,14 +116,37 @@ pub broken-each : (P : Answer → Type 0) (rs : List Rule) (a : Answer) → Each
 broken-each P rs a h (now {p = p} l e f) = h .0 p l e
 broken-each P rs a h (later {rs = qs} f b) = broken-each P qs a (h .1) b
 
--- each rule refuses with a number from 1 to `top`
-abbrev pub Numbered : ℕ → List Rule → Type 0
-Numbered top [] = Unit {0}
-Numbered top (r ∷ rs) = ((p : ℕ) → (1 ≤ number (r .refusal p)) × (number (r .refusal p) ≤ top)) × Numbered top rs
+-- the numbers with which the rules refuse, one after the other
+pub data Numbers : List ℕ → List Rule → Type 0 where
+  none : Numbers [] []
+  also : {m : ℕ} {ms : List ℕ} {r : Rule} {rs : List Rule} → ((p : ℕ) → number (r .refusal p) ≡ m) → Numbers ms rs → Numbers (m ∷ ms) (r ∷ rs)
 
-pub broken-number : (top : ℕ) (rs : List Rule) (a : Answer) → Numbered top rs → Broken rs a → (1 ≤ number a) × (number a ≤ top)
-broken-number top rs a h (now {p = p} l e f) = h .0 p
-broken-number top rs a h (later {rs = qs} f b) = broken-number top qs a (h .1) b
+-- no rule refuses with the number 0, nor with `other`
+abbrev pub Numbered : ℕ → List Rule → Type 0
+Numbered other [] = Unit {0}
+Numbered other (r ∷ rs) = ((p : ℕ) → (1 ≤ number (r .refusal p)) × (number (r .refusal p) ≡ other → ⊥)) × Numbered other rs
+
+abbrev pub without : ℕ → List ℕ → Bool
+without other [] = true
+without other (m ∷ ms) = not (eqb m 0) && (not (eqb m other) && without other ms)
+
+pub numbered : (other : ℕ) {ms : List ℕ} {rs : List Rule} → Numbers ms rs → without other ms ≡ true → Numbered other rs
+numbered other none e = tt
+numbered other (also {m = m} {ms = ms} h ns) e = (λ p. rw (h p) (positive m (some .0), eqb-false m other (not-true _ (some .1))), numbered other ns (some .2))
+  where
+    some : (not (eqb m 0) ≡ true) × (not (eqb m other) ≡ true) × (without other ms ≡ true)
+    some =
+        let f = and-eq-true-iff (not (eqb m 0)) _ .0 e in
+        let g = and-eq-true-iff (not (eqb m other)) (without other ms) .0 (f .1) in
+        (f .0, g .0, g .1)
+
+    positive : (k : ℕ) → not (eqb k 0) ≡ true → 1 ≤ k
+    positive zero h = absurd (true≢false (sym h))
+    positive (suc k) h = omega arith
+
+pub broken-number : (other : ℕ) (rs : List Rule) (a : Answer) → Numbered other rs → Broken rs a → (1 ≤ number a) × (number a ≡ other → ⊥)
+broken-number other rs a h (now {p = p} l e f) = h .0 p
+broken-number other rs a h (later {rs = qs} f b) = broken-number other qs a (h .1) b
 
 -- where none of the tests passes, the one at i fails
 pub any-none : (bs : List Bool) → any bs ≡ false → (i : ℕ) → getD bs i false ≡ false
@@ -129,6 +159,16 @@ any-none (false ∷ bs) e (suc i) = any-none bs e i
 abbrev pub Sorted : ℕ → List Rule → Type 0
 Sorted n [] = Unit {0}
 Sorted n (r ∷ rs) = (m : ℕ) × (n ≤ m) × ((p : ℕ) → number (r .refusal p) ≡ m) × Sorted m rs
+
+abbrev pub rising : ℕ → List ℕ → Bool
+rising n [] = true
+rising n (m ∷ ms) = leb n m && rising m ms
+
+pub sorted : (n : ℕ) {ms : List ℕ} {rs : List Rule} → Numbers ms rs → rising n ms ≡ true → Sorted n rs
+sorted n none e = tt
+sorted n (also {m = m} {ms = ms} h ns) e =
+    let f = and-eq-true-iff (leb n m) (rising m ms) .0 e in
+    (m, leb-true n m (f .0), h, sorted m ns (f .1))
 
 abbrev HeadApplies : List Rule → Answer → Type 0
 HeadApplies [] a = ⊥

@@ -57,7 +57,7 @@ module _ (used : ℕ) (w : List ℕ) where
   cleared-rest i l h = getD-tab (length w) _ 0 i l ∙ ap (λ (b : Bool). cond b 0 (at w i)) (le-ltb i used h)
 
 -- a step
-module _ (rs : List Rule) (num : Numbered 7 rs) (f : List ℕ → List ℕ) (used : ℕ) (s w : List ℕ) where
+module _ (rs : List Rule) (num : Numbered 8 rs) (f : List ℕ → List ℕ) (used : ℕ) (s w : List ℕ) where
   abbrev stepDone : Outcome
   stepDone = stepTaken f used s w
 
@@ -67,10 +67,10 @@ module _ (rs : List Rule) (num : Numbered 7 rs) (f : List ℕ → List ℕ) (use
 
   pub step-done : number (stepUnder rs f used s w .answer) ≡ 0 → stepUnder rs f used s w ≡ stepDone
   step-done =
-      by-verdict (λ (o : Outcome). number (o .answer) ≡ 0 → o ≡ stepDone) rs (untouched s w) stepDone (λ c l. refl) (λ a b l. absurd (omega (arith, broken-number 7 rs a num b .0)))
+      by-verdict (λ (o : Outcome). number (o .answer) ≡ 0 → o ≡ stepDone) rs (untouched s w) stepDone (λ c l. refl) (λ a b l. absurd (omega (arith, broken-number 8 rs a num b .0)))
 
 -- a unit run
-module _ (rs : List Rule) (num : Numbered 7 rs) (f : List ℕ → List ℕ) (used : ℕ) (s : List ℕ) (ch : Changes) (limit : ℕ) (w : List ℕ) where
+module _ (rs : List Rule) (num : Numbered 8 rs) (f : List ℕ → List ℕ) (used : ℕ) (s : List ℕ) (ch : Changes) (limit : ℕ) (w : List ℕ) where
   abbrev ran : Ran
   ran = unitSteps f s ch limit
 
@@ -87,29 +87,29 @@ module _ (rs : List Rule) (num : Numbered 7 rs) (f : List ℕ → List ℕ) (use
   unfolding unitSteps
   says = settle-says f (limitOf limit) 0 (entered s ch)
 
-  not-refusal : 1 ≤ number (ranAnswer ran (limitOf limit)) → number (ranAnswer ran (limitOf limit)) ≤ 7 → ⊥
+  not-refusal : 1 ≤ number (ranAnswer ran (limitOf limit)) → (number (ranAnswer ran (limitOf limit)) ≡ 8 → ⊥) → ⊥
   not-refusal = go (ran .ends)
     where
-      go : (b : Bool) → 1 ≤ number (cond b (Done (ran .count) 0) (Oscillates (limitOf limit))) → number (cond b (Done (ran .count) 0) (Oscillates (limitOf limit))) ≤ 7 → ⊥
+      go : (b : Bool) → 1 ≤ number (cond b (Done (ran .count) 0) (Oscillates (limitOf limit))) → (number (cond b (Done (ran .count) 0) (Oscillates (limitOf limit))) ≡ 8 → ⊥) → ⊥
       go true l h = omega arith
-      go false l h = omega arith
+      go false l h = h refl
 
-  pub unit-refused : 1 ≤ number (unitRun .answer) → number (unitRun .answer) ≤ 7 → (unitRun .states ≡ s) × (unitRun .work ≡ w)
+  pub unit-refused : 1 ≤ number (unitRun .answer) → (number (unitRun .answer) ≡ 8 → ⊥) → (unitRun .states ≡ s) × (unitRun .work ≡ w)
   unit-refused =
-      by-verdict (λ (o : Outcome). 1 ≤ number (o .answer) → number (o .answer) ≤ 7 → (o .states ≡ s) × (o .work ≡ w)) rs (untouched s w) unitEnd
+      by-verdict (λ (o : Outcome). 1 ≤ number (o .answer) → (number (o .answer) ≡ 8 → ⊥) → (o .states ≡ s) × (o .work ≡ w)) rs (untouched s w) unitEnd
       (λ c l h. absurd (not-refusal l h)) (λ a b l h. (refl, refl))
 
   -- the answers 0 and 8 are those of the steps
   pub unit-ran : (number (unitRun .answer) ≡ 0) ⊎ (number (unitRun .answer) ≡ 8) → Clean rs × (unitRun ≡ unitEnd)
   unit-ran =
       by-verdict (λ (o : Outcome). (number (o .answer) ≡ 0) ⊎ (number (o .answer) ≡ 8) → Clean rs × (o ≡ unitEnd)) rs (untouched s w) unitEnd (λ c h. (c, refl))
-      (λ a b h. absurd (elim h [ inl e ↦ omega (arith, broken-number 7 rs a num b .0) | inr e ↦ omega (arith, broken-number 7 rs a num b .1) ]))
+      (λ a b h. absurd (elim h [ inl e ↦ omega (arith, broken-number 8 rs a num b .0) | inr e ↦ omega (arith, broken-number 8 rs a num b .1) ]))
 
   -- DONE: the count is the least number of steps that settles, and it is within the limit
   pub unit-done : number (unitRun .answer) ≡ 0 → Settles f (limitOf limit) (entered s ch) (firstCount (unitRun .answer)) (unitRun .states)
   unit-done =
       by-verdict (λ (o : Outcome). number (o .answer) ≡ 0 → Settles f (limitOf limit) (entered s ch) (firstCount (o .answer)) (o .states)) rs (untouched s w) unitEnd (λ c. go says)
-      (λ a b e. absurd (omega (arith, broken-number 7 rs a num b .0)))
+      (λ a b e. absurd (omega (arith, broken-number 8 rs a num b .0)))
     where
       go : Says → number (ranAnswer ran (limitOf limit)) ≡ 0 → Settles f (limitOf limit) (entered s ch) (firstCount (ranAnswer ran (limitOf limit))) (ran .states)
       go (inl x) e = rw (x .ends) (ended-settles f (limitOf limit) (limitOf limit) (entered s ch) ran x (x .few))
@@ -119,7 +119,7 @@ module _ (rs : List Rule) (num : Numbered 7 rs) (f : List ℕ → List ℕ) (use
   pub unit-oscillates : number (unitRun .answer) ≡ 8 → (unitRun .answer ≡ Oscillates (limitOf limit)) × Unsettled f (limitOf limit) (entered s ch) (unitRun .states)
   unit-oscillates =
       by-verdict (λ (o : Outcome). number (o .answer) ≡ 8 → (o .answer ≡ Oscillates (limitOf limit)) × Unsettled f (limitOf limit) (entered s ch) (o .states)) rs (untouched s w) unitEnd
-      (λ c. go says) (λ a b e. absurd (omega (arith, broken-number 7 rs a num b .1)))
+      (λ c. go says) (λ a b e. absurd (omega (arith, broken-number 8 rs a num b .1)))
     where
       go : Says → number (ranAnswer ran (limitOf limit)) ≡ 8 → (ranAnswer ran (limitOf limit) ≡ Oscillates (limitOf limit)) × Unsettled f (limitOf limit) (entered s ch) (ran .states)
       go (inl x) e = absurd (omega (arith, rw (x .ends) at e))
@@ -137,7 +137,7 @@ module _ (rs : List Rule) (num : Numbered 7 rs) (f : List ℕ → List ℕ) (use
       (elim says [ inl x ↦ absurd (none (x .steps) (x .few) (x .fixed)) | inr x ↦ ap (λ (b : Bool). number (cond b (Done (ran .count) 0) (Oscillates (limitOf limit)))) (x .ends) ])
 
 -- a ternary run
-module _ (rs : List Rule) (num : Numbered 6 rs) (n : ℕ) (input : ℕ → Bool) (f : List ℕ → List ℕ) (used : ℕ) (s : List ℕ) (ch : Changes) (w : List ℕ) where
+module _ (rs : List Rule) (num : Numbered 7 rs) (n : ℕ) (input : ℕ → Bool) (f : List ℕ → List ℕ) (used : ℕ) (s : List ℕ) (ch : Changes) (w : List ℕ) where
   abbrev ternaryEnd : Outcome
   ternaryEnd = ternaryRan n f used s ch w
 
@@ -156,12 +156,12 @@ module _ (rs : List Rule) (num : Numbered 6 rs) (n : ℕ) (input : ℕ → Bool)
   start-clean : Clean (startRule f s ∷ []) → f s ≡ s
   start-clean c = same-true (f s) s (not-false (settled f s) (c .0 0 (omega arith)))
 
-  pub ternary-refused : 1 ≤ number (ternaryRun .answer) → number (ternaryRun .answer) ≤ 6 → (ternaryRun .states ≡ s) × (ternaryRun .work ≡ w)
+  pub ternary-refused : 1 ≤ number (ternaryRun .answer) → (number (ternaryRun .answer) ≡ 7 → ⊥) → (ternaryRun .states ≡ s) × (ternaryRun .work ≡ w)
   ternary-refused =
-      by-verdict (λ (o : Outcome). 1 ≤ number (o .answer) → number (o .answer) ≤ 6 → (o .states ≡ s) × (o .work ≡ w)) rs (untouched s w) started
+      by-verdict (λ (o : Outcome). 1 ≤ number (o .answer) → (number (o .answer) ≡ 7 → ⊥) → (o .states ≡ s) × (o .work ≡ w)) rs (untouched s w) started
       (λ c.
-      by-verdict (λ (o : Outcome). 1 ≤ number (o .answer) → number (o .answer) ≤ 6 → (o .states ≡ s) × (o .work ≡ w)) (startRule f s ∷ []) (untouched s (cleared used w)) ternaryEnd
-      (λ d l h. absurd (omega arith)) (λ a b l h. absurd (omega (arith, start-broken a b .0))))
+      by-verdict (λ (o : Outcome). 1 ≤ number (o .answer) → (number (o .answer) ≡ 7 → ⊥) → (o .states ≡ s) × (o .work ≡ w)) (startRule f s ∷ []) (untouched s (cleared used w)) ternaryEnd
+      (λ d l h. absurd (omega arith)) (λ a b l h. absurd (h (start-broken a b .0))))
       (λ a b l h. (refl, refl))
 
   -- START: the state before any change is not settled
@@ -171,7 +171,7 @@ module _ (rs : List Rule) (num : Numbered 6 rs) (n : ℕ) (input : ℕ → Bool)
       (λ c.
       by-verdict (λ (o : Outcome). number (o .answer) ≡ 7 → (f s ≡ s → ⊥) × (o .states ≡ s) × (o .work ≡ cleared used w)) (startRule f s ∷ []) (untouched s (cleared used w)) ternaryEnd
       (λ d e. absurd (omega arith)) (λ a b e. (start-broken a b .1, refl, refl)))
-      (λ a b e. absurd (omega (arith, broken-number 6 rs a num b .1)))
+      (λ a b e. absurd (omega (arith, broken-number 7 rs a num b .1)))
 
   pub ternary-ran : number (ternaryRun .answer) ≡ 0 → Clean rs × (f s ≡ s) × (ternaryRun ≡ ternaryEnd)
   ternary-ran =
@@ -179,7 +179,7 @@ module _ (rs : List Rule) (num : Numbered 6 rs) (n : ℕ) (input : ℕ → Bool)
       (λ c.
       by-verdict (λ (o : Outcome). number (o .answer) ≡ 0 → Clean rs × (f s ≡ s) × (o ≡ ternaryEnd)) (startRule f s ∷ []) (untouched s (cleared used w)) ternaryEnd
       (λ d e. (c, start-clean d, refl)) (λ a b e. absurd (omega (arith, start-broken a b .0))))
-      (λ a b e. absurd (omega (arith, broken-number 6 rs a num b .0)))
+      (λ a b e. absurd (omega (arith, broken-number 7 rs a num b .0)))
 
   -- and exactly when
   pub ternary-done-when : Clean rs → f s ≡ s → ternaryRun ≡ ternaryEnd

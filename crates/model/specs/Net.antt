@@ -18,6 +18,10 @@ pub record Net : Type 0 where
 abbrev pub netOf : List ℕ → List ℕ → List ℕ → List ℕ → List ℕ → Net
 netOf kinds types gates sources drains = record { kinds = kinds; types = types; gates = gates; sources = sources; drains = drains }
 
+-- the nodes alone, with no transistor: what a node is by itself
+abbrev pub alone : List ℕ → Net
+alone kinds = netOf kinds [] [] [] []
+
 abbrev pub nodes : Net → ℕ
 nodes net = length (net .kinds)
 

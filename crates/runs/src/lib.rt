@@ -6,12 +6,13 @@ ghost use Prim.Native.Nat.{_≤_};
 ghost use lib.ListN.{length};
 ghost use lib.Dec.{eqb};
 ghost use Rattle.model.specs.Bounds.{highestLimit};
-ghost use Rattle.model.specs.Net.{isInput, netOf};
-ghost use Rattle.model.specs.Run.{put, raised, settle, limitOf, unitSteps, changesOf};
+ghost use Rattle.model.specs.Net.{isInput, step};
+ghost use Rattle.model.specs.Run.{put, raised, settle, limitOf, unitSteps};
+ghost use Rattle.model.specs.Lent.{netNow, changesNow, lent, left, lentNet, lentChanges};
 ghost use Rattle.model.specs.Entries.{cleared};
 ghost use Rattle.model.specs.Demands.{Enterable};
-ghost use Rattle.stepper.specs.Step.{Checked};
-ghost use Rattle.runs.specs.Runs.{Named, Once, Stepped, Told, Ended, Halved};
+ghost use Rattle.basis.specs.Sound.{Checked, Named, Once};
+ghost use Rattle.basis.specs.Steps.{ruleOne, Stepped, Told, Ended, Halved};
 
 // How steps ended: settled or not, and after how many.
 pub struct Ran {
@@ -27,8 +28,8 @@ pub struct Halves {
 
 // The named nodes take their new states.
 pub fn enter(states: &mut [u8], nodes: &[u16], news: &[u8])
-    requires { ⌜ Named (changesOf (now nodes) (now news)) (length (now states)) ⌝ }
-    ensures { λ r. ⌜ now (states .exit) ≡ put (now (states .entry)) (now (nodes .entry)) (now (news .entry)) ⌝ }
+    requires { ⌜ Named (changesNow nodes news) (length (now states)) ⌝ }
+    ensures { λ r. ⌜ left states ≡ put (lent states) (lent nodes) (lent news) ⌝ }
 {
     let mut e = 0;
     while e < nodes.len() {
@@ -50,8 +51,8 @@ fn raised_state(old: u8, new: u8) -> u8
 
 // The named nodes whose new state differs from their present one take X.
 pub fn raise_changed(states: &mut [u8], nodes: &[u16], news: &[u8])
-    requires { ⌜ Named (changesOf (now nodes) (now news)) (length (now states)) × Once (changesOf (now nodes) (now news)) ⌝ }
-    ensures { λ r. ⌜ now (states .exit) ≡ raised (now (states .entry)) (put (now (states .entry)) (now (nodes .entry)) (now (news .entry))) ⌝ }
+    requires { ⌜ Named (changesNow nodes news) (length (now states)) × Once (changesNow nodes news) ⌝ }
+    ensures { λ r. ⌜ left states ≡ raised (lent states) (put (lent states) (lent nodes) (lent news)) ⌝ }
 {
     let mut e = 0;
     while e < nodes.len() {
@@ -64,7 +65,7 @@ pub fn raise_changed(states: &mut [u8], nodes: &[u16], news: &[u8])
 // The first `used` work cells become 0.
 pub fn clear(work: &mut [u16], used: usize)
     requires { ⌜ used ≤ length (now work) ⌝ }
-    ensures { λ r. ⌜ now (work .exit) ≡ cleared used (now (work .entry)) ⌝ }
+    ensures { λ r. ⌜ left work ≡ cleared used (lent work) ⌝ }
 {
     stepper::cells::zero(work, 0, used);
 }
@@ -79,8 +80,9 @@ pub fn step_once(
     drains: &[u16],
     work: &mut [u16],
 ) -> u32
-    requires { ⌜ Checked (netOf (now kinds) (now types) (now gates) (now sources) (now drains)) (now states) (length (now work)) ⌝ }
-    ensures { λ r. ⌜ Stepped (netOf (now (kinds .entry)) (now (types .entry)) (now (gates .entry)) (now (sources .entry)) (now (drains .entry))) (now (states .entry)) (now (work .entry)) r (now (states .exit)) (now (work .exit)) ⌝ }
+    requires { ⌜ Checked (netNow kinds types gates sources drains) (now states) (length (now work)) ⌝ }
+    ensures { λ r. let net = lentNet kinds types gates sources drains in
+        ⌜ Stepped (ruleOne net) (lent states) (lent work) r (left states) (left work) ⌝ }
 {
     stepper::evaluate(kinds, states, types, gates, sources, drains, work);
     let differ = stepper::differing(states, work);
@@ -98,8 +100,9 @@ pub fn settled(
     drains: &[u16],
     work: &mut [u16],
 ) -> bool
-    requires { ⌜ Checked (netOf (now kinds) (now types) (now gates) (now sources) (now drains)) (now states) (length (now work)) ⌝ }
-    ensures { λ r. ⌜ Told (netOf (now (kinds .entry)) (now (types .entry)) (now (gates .entry)) (now (sources .entry)) (now (drains .entry))) (now (states .entry)) (now (work .entry)) r (now (work .exit)) ⌝ }
+    requires { ⌜ Checked (netNow kinds types gates sources drains) (now states) (length (now work)) ⌝ }
+    ensures { λ r. let net = lentNet kinds types gates sources drains in
+        ⌜ Told (ruleOne net) (lent states) (lent work) r (left work) ⌝ }
 {
     stepper::evaluate(kinds, states, types, gates, sources, drains, work);
     stepper::differing(states, work) == 0
@@ -116,8 +119,11 @@ pub fn settle(
     work: &mut [u16],
     limit: u32,
 ) -> Ran
-    requires { ⌜ Checked (netOf (now kinds) (now types) (now gates) (now sources) (now drains)) (now states) (length (now work)) × (limit ≤ highestLimit) ⌝ }
-    ensures { λ r. ⌜ Ended (netOf (now (kinds .entry)) (now (types .entry)) (now (gates .entry)) (now (sources .entry)) (now (drains .entry))) (λ f. settle f limit 0 (now (states .entry))) (now (work .entry)) (r .ends) (r .count) (now (states .exit)) (now (work .exit)) ⌝ }
+    requires { let net = netNow kinds types gates sources drains in
+        ⌜ Checked net (now states) (length (now work)) × (limit ≤ highestLimit) ⌝ }
+    ensures { λ r. let net = lentNet kinds types gates sources drains in
+        let run = settle (step net) limit 0 (lent states) in
+        ⌜ Ended (ruleOne net) run (lent work) (r .ends) (r .count) (left states) (left work) ⌝ }
 {
     let mut count = 0;
     loop {
@@ -156,8 +162,12 @@ pub fn unit_core(
     limit: u32,
     work: &mut [u16],
 ) -> Ran
-    requires { ⌜ Checked (netOf (now kinds) (now types) (now gates) (now sources) (now drains)) (now states) (length (now work)) × Named (changesOf (now nodes) (now news)) (length (now kinds)) × (limit ≤ highestLimit) ⌝ }
-    ensures { λ r. ⌜ Ended (netOf (now (kinds .entry)) (now (types .entry)) (now (gates .entry)) (now (sources .entry)) (now (drains .entry))) (λ f. unitSteps f (now (states .entry)) (changesOf (now (nodes .entry)) (now (news .entry))) limit) (now (work .entry)) (r .ends) (r .count) (now (states .exit)) (now (work .exit)) ⌝ }
+    requires { let net = netNow kinds types gates sources drains in
+        let changes = changesNow nodes news in
+        ⌜ Checked net (now states) (length (now work)) × Named changes (length (now kinds)) × (limit ≤ highestLimit) ⌝ }
+    ensures { λ r. let net = lentNet kinds types gates sources drains in
+        let run = unitSteps (step net) (lent states) (lentChanges nodes news) limit in
+        ⌜ Ended (ruleOne net) run (lent work) (r .ends) (r .count) (left states) (left work) ⌝ }
 {
     enter(states, nodes, news);
     settle(
@@ -185,8 +195,12 @@ pub fn ternary_core(
     news: &[u8],
     work: &mut [u16],
 ) -> Halves
-    requires { ⌜ Checked (netOf (now kinds) (now types) (now gates) (now sources) (now drains)) (now states) (length (now work)) × (length (now news) ≡ length (now nodes)) × Enterable (length (now kinds)) (isInput (netOf (now kinds) (now types) (now gates) (now sources) (now drains))) (changesOf (now nodes) (now news)) ⌝ }
-    ensures { λ r. ⌜ Halved (netOf (now (kinds .entry)) (now (types .entry)) (now (gates .entry)) (now (sources .entry)) (now (drains .entry))) (now (states .entry)) (changesOf (now (nodes .entry)) (now (news .entry))) (now (work .entry)) (r .first) (r .second) (now (states .exit)) (now (work .exit)) ⌝ }
+    requires { let net = netNow kinds types gates sources drains in
+        ⌜ Checked net (now states) (length (now work)) × (length (now news) ≡ length (now nodes))
+        × Enterable (length (now kinds)) (isInput net) (changesNow nodes news) ⌝ }
+    ensures { λ r. let net = lentNet kinds types gates sources drains in
+        let changes = lentChanges nodes news in
+        ⌜ Halved (ruleOne net) (lent states) changes (lent work) (r .first) (r .second) (left states) (left work) ⌝ }
 {
     let n = kinds.len() as u32;
     raise_changed(states, nodes, news);

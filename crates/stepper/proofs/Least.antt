@@ -12,9 +12,10 @@ use Rattle.model.specs.Ways.{Frame}
 use Rattle.model.specs.Tables.{Came, began, over, Least, StepTables}
 use Rattle.model.specs.RuleOne.{frame}
 use Rattle.laws.proofs.RuleOne.{tables-step}
-use Rattle.stepper.specs.Step.{Checked, Evaluated}
+use Rattle.basis.specs.Steps.{ruleOne, Evaluated}
 use Rattle.stepper.specs.Relax.{cell, flow, Relaxed}
-use Rattle.stepper.specs.Start.{Written, Bytes, own, begins, Definite, Against, next}
+use Rattle.basis.specs.Cells.{Written, Bytes}
+use Rattle.stepper.specs.Start.{own, begins, Definite, Against, next}
 
 -- only what the tables have at nodes counts
 module _ {F : Frame} {ok : ℕ → Bool} {low low′ start start′ : ℕ → ℕ} (l : (v : ℕ) → v < F .size → low v ≡ low′ v) (s : (v : ℕ) → v < F .size → start v ≡ start′ v) where
@@ -57,23 +58,9 @@ module _ (net : Net) (s : List ℕ) where
           against1 = least-on d₁ (λ v l. rw (d₁ v l)) (λ v l. refl) (p₁ .least);
         }
 
-    pub evaluated : {w₄ : List ℕ} → Written (next net s w₃) w₃ 0 n w₄ → Bytes n w₄ → Evaluated net s w₀ w₄
+    pub evaluated : {w₄ : List ℕ} → Written (next net s w₃) w₃ 0 n w₄ → Bytes n w₄ → Evaluated (ruleOne net) s w₀ w₄
     evaluated f small = record {
       next = λ v l. rw zero-add at (f .inside v l) ∙ sym (tables-step net s (cell w₃ 0) (cell w₃ n) (cell w₃ (2 * n)) step-tables v l);
       small = small;
       after = λ k l. f .after k (omega arith) ∙ p₁ .after k (omega arith) ∙ p₀ .after k (omega arith) ∙ d .after k l;
     }
-
--- a checked network stays so under other states, and in a work area of the same length
-pub checked-with : {net : Net} {s s′ : List ℕ} {room room′ : ℕ} → Checked net s room → length s′ ≡ length s → room′ ≡ room → Checked net s′ room′
-checked-with c e r = record {
-  states = e ∙ c .states;
-  gates = c .gates;
-  sources = c .sources;
-  drains = c .drains;
-  wired = c .wired;
-  kinds = c .kinds;
-  few-nodes = c .few-nodes;
-  few-transistors = c .few-transistors;
-  fits = rw r (c .fits);
-}

@@ -1,5 +1,3 @@
 -- What lies behind the functions of a step.
-pub mod Stores
 pub mod Lifts
 pub mod Least
-pub mod Next

@@ -13,7 +13,7 @@ use Rattle.model.specs.Places.{at}
 use Rattle.model.specs.Ways.{Inside}
 use Rattle.model.specs.Tables.{Came, began, over}
 use Rattle.stepper.specs.Relax.{cell, Flow, Pulled, still, moved, Lift, Lifts, none, lift, Still, Tried, Swept, Relaxed}
-use Rattle.stepper.proofs.Stores.{Stored, here, else, stored}
+use Rattle.basis.proofs.Cells.{Stored, here, else, stored}
 
 pub pulled-few : {input : ℕ → Bool} {table floor ceiling a b : ℕ} {w u : List ℕ} {r : ℕ} → Pulled input table floor ceiling a b w u r → r ≤ 1
 pulled-few (still p) = omega arith

@@ -1,4 +1,3 @@
--- What a step is asked for and leaves; then what the functions within it promise one another.
-pub mod Step
+-- What the functions within a step promise one another.
 pub mod Relax
 pub mod Start

@@ -1,31 +1,17 @@
--- Cells written in a row, what the tables of a step begin with, and what they are. Assumes nothing.
+-- What the tables of a step begin with, and what they are. Assumes nothing.
 use Prim.Native.Nat.{ℕ, _+_, _*_, _≤_, _<_}
 use mathlib.Core.Path.{_≡_}
 use mathlib.Core.Bool.{Bool, true, false, not, cond}
-use mathlib.Core.List.{List, []}
+use mathlib.Core.List.{List}
 use lib.ListN.{length}
 use lib.Dec.{eqb}
 use Rattle.model.specs.Places.{at}
-use Rattle.model.specs.Net.{Net, nodes, isInput, standAt, sourceState, netOf}
+use Rattle.model.specs.Net.{Net, nodes, isInput, standAt, sourceState, alone}
 use Rattle.model.specs.Rules.{cells}
 use Rattle.model.specs.Ways.{choose}
 use Rattle.model.specs.Tables.{Least, starts, byTables}
 use Rattle.model.specs.RuleOne.{frame}
 use Rattle.stepper.specs.Relax.{cell}
-
--- w′ is w with f's values in the `count` cells from `first` on
-pub record Written (f : ℕ → ℕ) (w : List ℕ) (first count : ℕ) (w′ : List ℕ) : Type 0 where
-  pub inside : (k : ℕ) → k < count → at w′ (first + k) ≡ f k
-  pub before : (k : ℕ) → k < first → at w′ k ≡ at w k
-  pub after : (k : ℕ) → first + count ≤ k → at w′ k ≡ at w k
-
--- the first `count` cells hold bytes
-abbrev pub Bytes : ℕ → List ℕ → Type 0
-Bytes count w = (v : ℕ) → v < count → at w v ≤ 255
-
--- the nodes alone, with no transistor: what a node is by itself
-abbrev pub alone : List ℕ → Net
-alone kinds = netOf kinds [] [] [] []
 
 -- a node's strength as a source
 abbrev pub own : List ℕ → ℕ → ℕ

@@ -7,12 +7,13 @@ ghost use Prim.Native.Nat.{_≤_};
 ghost use lib.ListN.{length};
 ghost use lib.Dec.{eqb};
 ghost use mathlib.Core.Bool.{not, cond};
-ghost use Rattle.model.specs.Net.{netOf};
 ghost use Rattle.model.specs.Bounds.{mostNodes};
 ghost use Rattle.model.specs.Places.{tab, at};
+ghost use Rattle.model.specs.Lent.{netNow, lent, left, lentNet};
 ghost use Rattle.model.specs.Entries.{altered};
-ghost use Rattle.stepper.specs.Step.{Checked, Evaluated};
-ghost use Rattle.stepper.specs.Start.{Bytes};
+ghost use Rattle.basis.specs.Sound.{Checked};
+ghost use Rattle.basis.specs.Cells.{Bytes};
+ghost use Rattle.basis.specs.Steps.{ruleOne, Evaluated};
 
 pub mod cells;
 mod relax;
@@ -29,8 +30,9 @@ pub fn evaluate(
     drains: &[u16],
     work: &mut [u16],
 )
-    requires { ⌜ Checked (netOf (now kinds) (now types) (now gates) (now sources) (now drains)) (now states) (length (now work)) ⌝ }
-    ensures { λ r. ⌜ Evaluated (netOf (now (kinds .entry)) (now (types .entry)) (now (gates .entry)) (now (sources .entry)) (now (drains .entry))) (now (states .entry)) (now (work .entry)) (now (work .exit)) ⌝ }
+    requires { ⌜ Checked (netNow kinds types gates sources drains) (now states) (length (now work)) ⌝ }
+    ensures { λ r. let net = lentNet kinds types gates sources drains in
+        ⌜ Evaluated (ruleOne net) (lent states) (lent work) (left work) ⌝ }
 {
     let n = kinds.len();
     tables::definite(kinds, states, types, gates, sources, drains, work);
@@ -52,7 +54,7 @@ fn differs(next: u16, state: u8) -> u32
 // How many nodes the evaluated step alters.
 pub fn differing(states: &[u8], work: &[u16]) -> u32
     requires { ⌜ (length (now states) ≤ length (now work)) × (length (now states) ≤ mostNodes) ⌝ }
-    ensures { λ r. ⌜ r ≡ altered (now (states .entry)) (now (work .entry)) ⌝ }
+    ensures { λ r. ⌜ r ≡ altered (lent states) (lent work) ⌝ }
 {
     let mut k = 0;
     let mut node = 0;
@@ -66,7 +68,7 @@ pub fn differing(states: &[u8], work: &[u16]) -> u32
 // The evaluated step takes effect.
 pub fn store(states: &mut [u8], work: &[u16])
     requires { ⌜ (length (now states) ≤ length (now work)) × Bytes (length (now states)) (now work) ⌝ }
-    ensures { λ r. ⌜ now (states .exit) ≡ tab (length (now (states .entry))) (at (now (work .entry))) ⌝ }
+    ensures { λ r. ⌜ left states ≡ tab (length (lent states)) (at (lent work)) ⌝ }
 {
     let mut v = 0;
     while v < states.len() {

@@ -2,9 +2,10 @@
 ghost use mathlib.Core.Path.{_≡_};
 ghost use Prim.Native.Nat.{min, _+_, _<_};
 ghost use lib.ListN.{length};
-ghost use Rattle.model.specs.Net.{inputs, stand, netOf};
+ghost use Rattle.model.specs.Net.{inputs, stand};
+ghost use Rattle.model.specs.Lent.{netNow, lent, left, lentNet};
 ghost use Rattle.model.specs.Ways.{choose};
-ghost use Rattle.stepper.specs.Step.{Checked};
+ghost use Rattle.basis.specs.Sound.{Checked};
 ghost use Rattle.stepper.specs.Relax.{flow, Placed, Pulled, Tried, Swept, Relaxed};
 
 // The most that a transistor lets pass: all.
@@ -43,8 +44,9 @@ pub fn pull(
     a: usize,
     b: usize,
 ) -> usize
-    requires { ⌜ (b < length (now kinds)) × (table + a < length (now work)) × (table + b < length (now work)) × (floor + b < length (now work)) ⌝ }
-    ensures { λ r. ⌜ Pulled (inputs (now (kinds .entry))) table floor ceiling a b (now (work .entry)) (now (work .exit)) r ⌝ }
+    requires { let room = length (now work) in
+        ⌜ (b < length (now kinds)) × (table + a < room) × (table + b < room) × (floor + b < room) ⌝ }
+    ensures { λ r. ⌜ Pulled (inputs (lent kinds)) table floor ceiling a b (lent work) (left work) r ⌝ }
 {
     if model::is_input(kinds[b]) {
         return 0;
@@ -74,8 +76,10 @@ pub fn relax_one(
     unknown: bool,
     t: usize,
 ) -> usize
-    requires { ⌜ Checked (netOf (now kinds) (now types) (now gates) (now sources) (now drains)) (now states) (length (now work)) × Placed (netOf (now kinds) (now types) (now gates) (now sources) (now drains)) table floor × (t < length (now types)) ⌝ }
-    ensures { λ r. ⌜ Tried (flow (netOf (now (kinds .entry)) (now (types .entry)) (now (gates .entry)) (now (sources .entry)) (now (drains .entry))) (now (states .entry)) unknown table floor) t (now (work .entry)) (now (work .exit)) r ⌝ }
+    requires { let net = netNow kinds types gates sources drains in
+        ⌜ Checked net (now states) (length (now work)) × Placed net table floor × (t < length (now types)) ⌝ }
+    ensures { λ r. let net = lentNet kinds types gates sources drains in
+        ⌜ Tried (flow net (lent states) unknown table floor) t (lent work) (left work) r ⌝ }
 {
     let gate = gates[t] as usize;
     if conducts(types[t], states[gate], unknown) {
@@ -101,8 +105,10 @@ pub fn sweep(
     floor: usize,
     unknown: bool,
 ) -> usize
-    requires { ⌜ Checked (netOf (now kinds) (now types) (now gates) (now sources) (now drains)) (now states) (length (now work)) × Placed (netOf (now kinds) (now types) (now gates) (now sources) (now drains)) table floor ⌝ }
-    ensures { λ r. ⌜ Swept (flow (netOf (now (kinds .entry)) (now (types .entry)) (now (gates .entry)) (now (sources .entry)) (now (drains .entry))) (now (states .entry)) unknown table floor) (length (now (types .entry))) (now (work .entry)) (now (work .exit)) r ⌝ }
+    requires { let net = netNow kinds types gates sources drains in
+        ⌜ Checked net (now states) (length (now work)) × Placed net table floor ⌝ }
+    ensures { λ r. let net = lentNet kinds types gates sources drains in
+        ⌜ Swept (flow net (lent states) unknown table floor) (length (lent types)) (lent work) (left work) r ⌝ }
 {
     let mut raised = 0;
     let mut t = 0;
@@ -138,8 +144,10 @@ pub fn relax(
     floor: usize,
     unknown: bool,
 )
-    requires { ⌜ Checked (netOf (now kinds) (now types) (now gates) (now sources) (now drains)) (now states) (length (now work)) × Placed (netOf (now kinds) (now types) (now gates) (now sources) (now drains)) table floor ⌝ }
-    ensures { λ r. ⌜ Relaxed (flow (netOf (now (kinds .entry)) (now (types .entry)) (now (gates .entry)) (now (sources .entry)) (now (drains .entry))) (now (states .entry)) unknown table floor) (now (work .entry)) (now (work .exit)) ⌝ }
+    requires { let net = netNow kinds types gates sources drains in
+        ⌜ Checked net (now states) (length (now work)) × Placed net table floor ⌝ }
+    ensures { λ r. let net = lentNet kinds types gates sources drains in
+        ⌜ Relaxed (flow net (lent states) unknown table floor) (lent work) (left work) ⌝ }
 {
     loop {
         let raised = sweep(

@@ -3,14 +3,16 @@ ghost use mathlib.Core.Path.{_≡_};
 ghost use Prim.Native.Nat.{_+_, _*_, _≤_, _<_};
 ghost use lib.ListN.{length};
 ghost use Rattle.model.specs.Places.{at};
-ghost use Rattle.model.specs.Net.{sourceState};
+ghost use Rattle.model.specs.Net.{alone, sourceState};
 ghost use Rattle.model.specs.Bounds.{mostNodes};
-ghost use Rattle.stepper.specs.Start.{Written, Bytes, alone, own, begins, next};
+ghost use Rattle.model.specs.Lent.{lent, left};
+ghost use Rattle.basis.specs.Cells.{Written, Bytes};
+ghost use Rattle.stepper.specs.Start.{own, begins, next};
 
 // The strength of node v as a source: input 3, pullup 2, normal 1.
 pub fn strength(kinds: &[u8], v: usize) -> u16
     requires { ⌜ v < length (now kinds) ⌝ }
-    ensures { λ r. ⌜ r ≡ own (now (kinds .entry)) v ⌝ }
+    ensures { λ r. ⌜ r ≡ own (lent kinds) v ⌝ }
 {
     if model::is_input(kinds[v]) {
         return 3;
@@ -24,7 +26,7 @@ pub fn strength(kinds: &[u8], v: usize) -> u16
 // The state of node v as a source: a pullup's is 1.
 pub fn source_state(kinds: &[u8], states: &[u8], v: usize) -> u8
     requires { ⌜ (v < length (now kinds)) × (v < length (now states)) ⌝ }
-    ensures { λ r. ⌜ r ≡ sourceState (alone (now (kinds .entry))) (now (states .entry)) v ⌝ }
+    ensures { λ r. ⌜ r ≡ sourceState (alone (lent kinds)) (lent states) v ⌝ }
 {
     if kinds[v] == 1 {
         return 1;
@@ -35,7 +37,7 @@ pub fn source_state(kinds: &[u8], states: &[u8], v: usize) -> u8
 // What the table against the state b begins with at node v; the definite strengths are in work[0..n].
 pub fn against(kinds: &[u8], states: &[u8], work: &[u16], v: usize, b: u8) -> u16
     requires { ⌜ (v < length (now kinds)) × (v < length (now states)) × (v < length (now work)) ⌝ }
-    ensures { λ r. ⌜ r ≡ begins (alone (now (kinds .entry))) (now (states .entry)) b (at (now (work .entry))) v ⌝ }
+    ensures { λ r. ⌜ r ≡ begins (alone (lent kinds)) (lent states) b (at (lent work)) v ⌝ }
 {
     if source_state(kinds, states, v) == b {
         return 0;
@@ -52,8 +54,9 @@ pub fn against(kinds: &[u8], states: &[u8], work: &[u16], v: usize, b: u8) -> u1
 
 // The next state of node v, by the tables against 0 and against 1 in work[n..3n].
 pub fn next_state(kinds: &[u8], states: &[u8], work: &[u16], v: usize) -> u8
-    requires { ⌜ (v < length (now kinds)) × (v < length (now states)) × (3 * length (now kinds) ≤ length (now work)) × (length (now kinds) ≤ mostNodes) ⌝ }
-    ensures { λ r. ⌜ r ≡ next (alone (now (kinds .entry))) (now (states .entry)) (now (work .entry)) v ⌝ }
+    requires { let n = length (now kinds) in
+        ⌜ (v < n) × (v < length (now states)) × (3 * n ≤ length (now work)) × (n ≤ mostNodes) ⌝ }
+    ensures { λ r. ⌜ r ≡ next (alone (lent kinds)) (lent states) (lent work) v ⌝ }
 {
     let n = kinds.len();
     if model::is_input(kinds[v]) {
@@ -71,7 +74,7 @@ pub fn next_state(kinds: &[u8], states: &[u8], work: &[u16], v: usize) -> u8
 // Each node's own strength, in work[0..n].
 pub fn start_definite(kinds: &[u8], work: &mut [u16])
     requires { ⌜ length (now kinds) ≤ length (now work) ⌝ }
-    ensures { λ r. ⌜ Written (own (now (kinds .entry))) (now (work .entry)) 0 (length (now (kinds .entry))) (now (work .exit)) ⌝ }
+    ensures { λ r. ⌜ Written (own (lent kinds)) (lent work) 0 (length (lent kinds)) (left work) ⌝ }
 {
     let mut v = 0;
     while v < kinds.len() {
@@ -82,8 +85,10 @@ pub fn start_definite(kinds: &[u8], work: &mut [u16])
 
 // What the table against b begins with, in work[table..table + n]; the definite strengths are in work[0..n].
 pub fn start_against(kinds: &[u8], states: &[u8], work: &mut [u16], table: usize, b: u8)
-    requires { ⌜ (length (now states) ≡ length (now kinds)) × (length (now kinds) ≤ table) × (table + length (now kinds) ≤ length (now work)) ⌝ }
-    ensures { λ r. ⌜ Written (begins (alone (now (kinds .entry))) (now (states .entry)) b (at (now (work .entry)))) (now (work .entry)) table (length (now (kinds .entry))) (now (work .exit)) ⌝ }
+    requires { let n = length (now kinds) in
+        ⌜ (length (now states) ≡ n) × (n ≤ table) × (table + n ≤ length (now work)) ⌝ }
+    ensures { λ r. let began = begins (alone (lent kinds)) (lent states) b (at (lent work)) in
+        ⌜ Written began (lent work) table (length (lent kinds)) (left work) ⌝ }
 {
     let mut v = 0;
     while v < kinds.len() {
@@ -94,8 +99,11 @@ pub fn start_against(kinds: &[u8], states: &[u8], work: &mut [u16], table: usize
 
 // The next states, in work[0..n], by the tables against 0 and against 1 in work[n..3n].
 pub fn finish(kinds: &[u8], states: &[u8], work: &mut [u16])
-    requires { ⌜ (length (now states) ≡ length (now kinds)) × (3 * length (now kinds) ≤ length (now work)) × (length (now kinds) ≤ mostNodes) ⌝ }
-    ensures { λ r. ⌜ Written (next (alone (now (kinds .entry))) (now (states .entry)) (now (work .entry))) (now (work .entry)) 0 (length (now (kinds .entry))) (now (work .exit)) × Bytes (length (now (kinds .entry))) (now (work .exit)) ⌝ }
+    requires { let n = length (now kinds) in
+        ⌜ (length (now states) ≡ n) × (3 * n ≤ length (now work)) × (n ≤ mostNodes) ⌝ }
+    ensures { λ r. let n = length (lent kinds) in
+        let new = next (alone (lent kinds)) (lent states) (lent work) in
+        ⌜ Written new (lent work) 0 n (left work) × Bytes n (left work) ⌝ }
 {
     let mut v = 0;
     while v < kinds.len() {

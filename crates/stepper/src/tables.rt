@@ -2,8 +2,8 @@
 // from 0 and from 1.
 ghost use Prim.Native.Nat.{_+_, _*_, _≤_};
 ghost use lib.ListN.{length};
-ghost use Rattle.model.specs.Net.{netOf};
-ghost use Rattle.stepper.specs.Step.{Checked};
+ghost use Rattle.model.specs.Lent.{netNow, lent, left, lentNet};
+ghost use Rattle.basis.specs.Sound.{Checked};
 ghost use Rattle.stepper.specs.Start.{Definite, Against};
 
 // The definite strengths, in work[0..n]: over closed transistors, with no floor, for which zeros stand in work[3n..4n].
@@ -16,8 +16,8 @@ pub fn definite(
     drains: &[u16],
     work: &mut [u16],
 )
-    requires { ⌜ Checked (netOf (now kinds) (now types) (now gates) (now sources) (now drains)) (now states) (length (now work)) ⌝ }
-    ensures { λ r. ⌜ Definite (netOf (now (kinds .entry)) (now (types .entry)) (now (gates .entry)) (now (sources .entry)) (now (drains .entry))) (now (states .entry)) (now (work .entry)) (now (work .exit)) ⌝ }
+    requires { ⌜ Checked (netNow kinds types gates sources drains) (now states) (length (now work)) ⌝ }
+    ensures { λ r. ⌜ Definite (lentNet kinds types gates sources drains) (lent states) (lent work) (left work) ⌝ }
 {
     let n = kinds.len();
     crate::cells::zero(work, 3 * n, n);
@@ -49,8 +49,11 @@ pub fn possible(
     table: usize,
     b: u8,
 )
-    requires { ⌜ Checked (netOf (now kinds) (now types) (now gates) (now sources) (now drains)) (now states) (length (now work)) × (length (now kinds) ≤ table) × (table + length (now kinds) ≤ 3 * length (now kinds)) ⌝ }
-    ensures { λ r. ⌜ Against (netOf (now (kinds .entry)) (now (types .entry)) (now (gates .entry)) (now (sources .entry)) (now (drains .entry))) (now (states .entry)) table b (now (work .entry)) (now (work .exit)) ⌝ }
+    requires { let net = netNow kinds types gates sources drains in
+        let n = length (now kinds) in
+        ⌜ Checked net (now states) (length (now work)) × (n ≤ table) × (table + n ≤ 3 * n) ⌝ }
+    ensures { λ r. let net = lentNet kinds types gates sources drains in
+        ⌜ Against net (lent states) table b (lent work) (left work) ⌝ }
 {
     crate::start::start_against(kinds, states, work, table, b);
     crate::relax::relax(

@@ -4,18 +4,17 @@ use model::HIGHEST_TYPE;
 use model::is_input;
 ghost use Prim.Native.Nat.{_<_};
 ghost use mathlib.Core.Path.{_≡_};
-ghost use mathlib.Core.List.{[]};
 ghost use lib.ListN.{length};
 ghost use lib.Dec.{eqb, ltb};
 ghost use Rattle.model.specs.Places.{some, any, first, at};
-ghost use Rattle.model.specs.Net.{netOf};
-ghost use Rattle.model.specs.Run.{changesOf};
+ghost use Rattle.model.specs.Net.{alone};
+ghost use Rattle.model.specs.Lent.{netNow, lent, lentNet, lentChanges};
 ghost use Rattle.model.specs.Rules.{wireTests, changeTests};
-ghost use Rattle.tables.specs.Lent.{Level};
+ghost use Rattle.basis.specs.Sound.{Level};
 
 // The first byte above m.
 pub fn first_above(s: &[u8], m: u8) -> usize
-    ensures { λ r. ⌜ r ≡ first (length (now (s .entry))) (λ v. ltb m (at (now (s .entry)) v)) ⌝ }
+    ensures { λ r. ⌜ r ≡ first (length (lent s)) (λ v. ltb m (at (lent s) v)) ⌝ }
 {
     let mut v = 0;
     while v < s.len() {
@@ -43,8 +42,8 @@ fn wrong_wire(
     drains: &[u16],
     t: usize,
 ) -> bool
-    requires { ⌜ (t < length (now types)) × Level (netOf (now kinds) (now types) (now gates) (now sources) (now drains)) ⌝ }
-    ensures { λ r. ⌜ r ≡ any (wireTests (netOf (now (kinds .entry)) (now (types .entry)) (now (gates .entry)) (now (sources .entry)) (now (drains .entry))) t) ⌝ }
+    requires { ⌜ (t < length (now types)) × Level (netNow kinds types gates sources drains) ⌝ }
+    ensures { λ r. ⌜ r ≡ any (wireTests (lentNet kinds types gates sources drains) t) ⌝ }
 {
     let n = kinds.len();
     if types[t] > HIGHEST_TYPE {
@@ -67,8 +66,9 @@ pub fn first_wrong_wire(
     sources: &[u16],
     drains: &[u16],
 ) -> usize
-    requires { ⌜ Level (netOf (now kinds) (now types) (now gates) (now sources) (now drains)) ⌝ }
-    ensures { λ r. ⌜ r ≡ first (length (now (types .entry))) (λ t. any (wireTests (netOf (now (kinds .entry)) (now (types .entry)) (now (gates .entry)) (now (sources .entry)) (now (drains .entry))) t)) ⌝ }
+    requires { ⌜ Level (netNow kinds types gates sources drains) ⌝ }
+    ensures { λ r. let net = lentNet kinds types gates sources drains in
+        ⌜ r ≡ first (length (lent types)) (λ t. any (wireTests net t)) ⌝ }
 {
     let mut t = 0;
     while t < types.len() {
@@ -83,7 +83,7 @@ pub fn first_wrong_wire(
 // Whether an entry before e names the same node.
 fn named_before(named: &[u16], e: usize) -> bool
     requires { ⌜ e < length (now named) ⌝ }
-    ensures { λ r. ⌜ r ≡ some e (λ k. eqb (at (now (named .entry)) k) (at (now (named .entry)) e)) ⌝ }
+    ensures { λ r. ⌜ r ≡ some e (λ k. eqb (at (lent named) k) (at (lent named) e)) ⌝ }
 {
     let v = named[e];
     let mut k = 0;
@@ -100,7 +100,7 @@ fn named_before(named: &[u16], e: usize) -> bool
 // reads the kinds alone.
 fn wrong_change(kinds: &[u8], named: &[u16], values: &[u8], e: usize) -> bool
     requires { ⌜ (e < length (now named)) × (length (now values) ≡ length (now named)) ⌝ }
-    ensures { λ r. ⌜ r ≡ any (changeTests (netOf (now (kinds .entry)) [] [] [] []) (changesOf (now (named .entry)) (now (values .entry))) e) ⌝ }
+    ensures { λ r. ⌜ r ≡ any (changeTests (alone (lent kinds)) (lentChanges named values) e) ⌝ }
 {
     let v = wide(named[e]);
     if v >= kinds.len() {
@@ -118,7 +118,8 @@ fn wrong_change(kinds: &[u8], named: &[u16], values: &[u8], e: usize) -> bool
 // The first such entry.
 pub fn first_wrong_change(kinds: &[u8], named: &[u16], values: &[u8]) -> usize
     requires { ⌜ length (now values) ≡ length (now named) ⌝ }
-    ensures { λ r. ⌜ r ≡ first (length (now (named .entry))) (λ e. any (changeTests (netOf (now (kinds .entry)) [] [] [] []) (changesOf (now (named .entry)) (now (values .entry))) e)) ⌝ }
+    ensures { λ r. let changes = lentChanges named values in
+        ⌜ r ≡ first (length (lent named)) (λ e. any (changeTests (alone (lent kinds)) changes e)) ⌝ }
 {
     let mut e = 0;
     while e < named.len() {

@@ -8,7 +8,7 @@ ghost use mathlib.Core.List.{[]};
 ghost use Rattle.model.specs.Bounds.{mostNodes, mostTransistors, cellsFor};
 ghost use Rattle.model.specs.Places.{any};
 ghost use Rattle.model.specs.Net.{netOf};
-ghost use Rattle.model.specs.Run.{changesOf};
+ghost use Rattle.model.specs.Lent.{lent, lentNet, lentChanges};
 ghost use Rattle.model.specs.Rules.{nodeSizes, wireSizes, changeSizes, checkSizes, resetSizes, stepSizes, runSizes};
 
 // The work cells that a network of so many nodes and transistors needs.
@@ -20,7 +20,7 @@ pub fn cells_for(nodes: usize, transistors: usize) -> usize
 }
 
 fn wrong_node_sizes(kinds: &[u8]) -> bool
-    ensures { λ r. ⌜ r ≡ any (nodeSizes (now (kinds .entry))) ⌝ }
+    ensures { λ r. ⌜ r ≡ any (nodeSizes (lent kinds)) ⌝ }
 {
     let n = kinds.len();
     if n < 1 {
@@ -31,7 +31,7 @@ fn wrong_node_sizes(kinds: &[u8]) -> bool
 
 // Of the network it reads the transistors alone.
 fn wrong_wire_sizes(types: &[u8], gates: &[u16], sources: &[u16], drains: &[u16]) -> bool
-    ensures { λ r. ⌜ r ≡ any (wireSizes (netOf [] (now (types .entry)) (now (gates .entry)) (now (sources .entry)) (now (drains .entry)))) ⌝ }
+    ensures { λ r. ⌜ r ≡ any (wireSizes (netOf [] (lent types) (lent gates) (lent sources) (lent drains))) ⌝ }
 {
     let m = types.len();
     if m > MOST_TRANSISTORS {
@@ -47,7 +47,7 @@ fn wrong_wire_sizes(types: &[u8], gates: &[u16], sources: &[u16], drains: &[u16]
 }
 
 fn wrong_change_sizes(named: &[u16], values: &[u8]) -> bool
-    ensures { λ r. ⌜ r ≡ any (changeSizes (changesOf (now (named .entry)) (now (values .entry)))) ⌝ }
+    ensures { λ r. ⌜ r ≡ any (changeSizes (lentChanges named values)) ⌝ }
 {
     if values.len() != named.len() {
         return true;
@@ -62,7 +62,7 @@ pub fn wrong_check_sizes(
     sources: &[u16],
     drains: &[u16],
 ) -> bool
-    ensures { λ r. ⌜ r ≡ any (checkSizes (netOf (now (kinds .entry)) (now (types .entry)) (now (gates .entry)) (now (sources .entry)) (now (drains .entry)))) ⌝ }
+    ensures { λ r. ⌜ r ≡ any (checkSizes (lentNet kinds types gates sources drains)) ⌝ }
 {
     if wrong_node_sizes(kinds) {
         return true;
@@ -71,7 +71,7 @@ pub fn wrong_check_sizes(
 }
 
 pub fn wrong_reset_sizes(kinds: &[u8], states: &[u8]) -> bool
-    ensures { λ r. ⌜ r ≡ any (resetSizes (now (kinds .entry)) (now (states .entry))) ⌝ }
+    ensures { λ r. ⌜ r ≡ any (resetSizes (lent kinds) (lent states)) ⌝ }
 {
     if wrong_node_sizes(kinds) {
         return true;
@@ -88,7 +88,7 @@ pub fn wrong_step_sizes(
     drains: &[u16],
     work: &[u16],
 ) -> bool
-    ensures { λ r. ⌜ r ≡ any (stepSizes (netOf (now (kinds .entry)) (now (types .entry)) (now (gates .entry)) (now (sources .entry)) (now (drains .entry))) (now (states .entry)) (now (work .entry))) ⌝ }
+    ensures { λ r. ⌜ r ≡ any (stepSizes (lentNet kinds types gates sources drains) (lent states) (lent work)) ⌝ }
 {
     if wrong_reset_sizes(kinds, states) {
         return true;
@@ -110,7 +110,8 @@ pub fn wrong_run_sizes(
     values: &[u8],
     work: &[u16],
 ) -> bool
-    ensures { λ r. ⌜ r ≡ any (runSizes (netOf (now (kinds .entry)) (now (types .entry)) (now (gates .entry)) (now (sources .entry)) (now (drains .entry))) (now (states .entry)) (changesOf (now (named .entry)) (now (values .entry))) (now (work .entry))) ⌝ }
+    ensures { λ r. let net = lentNet kinds types gates sources drains in
+        ⌜ r ≡ any (runSizes net (lent states) (lentChanges named values) (lent work)) ⌝ }
 {
     if wrong_step_sizes(kinds, states, types, gates, sources, drains, work) {
         return true;

@@ -5,8 +5,7 @@ use runs::clear;
 use tables::sizes::cells_for;
 ghost use mathlib.Core.Path.{_≡_};
 ghost use mathlib.Core.Bool.{cond};
-ghost use Rattle.model.specs.Net.{netOf};
-ghost use Rattle.model.specs.Run.{changesOf};
+ghost use Rattle.model.specs.Lent.{netNow, changesNow, lent, left, lentNet, lentChanges};
 ghost use Rattle.model.specs.Rules.{judge, stepRules, unitRules, ternaryRules};
 ghost use Rattle.model.specs.Entries.{stepOutcome, unitOutcome, ternaryOutcome, Leaves};
 ghost use Rattle.model.specs.declared.Verdict.the-variants.{Accepted};
@@ -21,8 +20,9 @@ pub fn take_step(
     drains: &[u16],
     work: &mut [u16],
 ) -> Answer
-    requires { ⌜ judge (stepRules (netOf (now kinds) (now types) (now gates) (now sources) (now drains)) (now states) (now work)) ≡ Accepted ⌝ }
-    ensures { λ r. ⌜ Leaves (stepOutcome (netOf (now (kinds .entry)) (now (types .entry)) (now (gates .entry)) (now (sources .entry)) (now (drains .entry))) (now (states .entry)) (now (work .entry))) r (now (states .exit)) (now (work .exit)) ⌝ }
+    requires { ⌜ judge (stepRules (netNow kinds types gates sources drains) (now states) (now work)) ≡ Accepted ⌝ }
+    ensures { λ r. let net = lentNet kinds types gates sources drains in
+        ⌜ Leaves (stepOutcome net (lent states) (lent work)) r (left states) (left work) ⌝ }
 {
     let used = cells_for(kinds.len(), types.len());
     let first = runs::step_once(kinds, states, types, gates, sources, drains, work);
@@ -57,8 +57,11 @@ pub fn run_unit(
     limit: u32,
     work: &mut [u16],
 ) -> Answer
-    requires { ⌜ judge (unitRules (netOf (now kinds) (now types) (now gates) (now sources) (now drains)) (now states) (changesOf (now «change_nodes») (now «change_states»)) limit (now work)) ≡ Accepted ⌝ }
-    ensures { λ r. ⌜ Leaves (unitOutcome (netOf (now (kinds .entry)) (now (types .entry)) (now (gates .entry)) (now (sources .entry)) (now (drains .entry))) (now (states .entry)) (changesOf (now («change_nodes» .entry)) (now («change_states» .entry))) limit (now (work .entry))) r (now (states .exit)) (now (work .exit)) ⌝ }
+    requires { let net = netNow kinds types gates sources drains in
+        ⌜ judge (unitRules net (now states) (changesNow «change_nodes» «change_states») limit (now work)) ≡ Accepted ⌝ }
+    ensures { λ r. let net = lentNet kinds types gates sources drains in
+        let changes = lentChanges «change_nodes» «change_states» in
+        ⌜ Leaves (unitOutcome net (lent states) changes limit (lent work)) r (left states) (left work) ⌝ }
 {
     let used = cells_for(kinds.len(), types.len());
     let ran = runs::unit_core(
@@ -89,8 +92,11 @@ pub fn run_ternary(
     change_states: &[u8],
     work: &mut [u16],
 ) -> Answer
-    requires { ⌜ judge (ternaryRules (netOf (now kinds) (now types) (now gates) (now sources) (now drains)) (now states) (changesOf (now «change_nodes») (now «change_states»)) (now work)) ≡ Accepted ⌝ }
-    ensures { λ r. ⌜ Leaves (ternaryOutcome (netOf (now (kinds .entry)) (now (types .entry)) (now (gates .entry)) (now (sources .entry)) (now (drains .entry))) (now (states .entry)) (changesOf (now («change_nodes» .entry)) (now («change_states» .entry))) (now (work .entry))) r (now (states .exit)) (now (work .exit)) ⌝ }
+    requires { let net = netNow kinds types gates sources drains in
+        ⌜ judge (ternaryRules net (now states) (changesNow «change_nodes» «change_states») (now work)) ≡ Accepted ⌝ }
+    ensures { λ r. let net = lentNet kinds types gates sources drains in
+        let changes = lentChanges «change_nodes» «change_states» in
+        ⌜ Leaves (ternaryOutcome net (lent states) changes (lent work)) r (left states) (left work) ⌝ }
 {
     let used = cells_for(kinds.len(), types.len());
     if !runs::settled(kinds, states, types, gates, sources, drains, work) {

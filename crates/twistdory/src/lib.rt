@@ -8,9 +8,8 @@ ghost use mathlib.Core.Path.{_≡_};
 ghost use mathlib.Core.List.{[]};
 ghost use lib.ListN.{length};
 ghost use Rattle.model.specs.Places.{tab};
+ghost use Rattle.model.specs.Lent.{lent, left, lentNet, lentChanges};
 ghost use Rattle.model.specs.Entries.{checkAnswer, resetOutcome, stepOutcome, unitOutcome, ternaryOutcome, Leaves};
-ghost use Rattle.model.specs.Net.{netOf};
-ghost use Rattle.model.specs.Run.{changesOf};
 
 // DONE, with counts of 0.
 fn done() -> Answer
@@ -24,7 +23,7 @@ fn done() -> Answer
 
 // Checks a network: its kinds and its transistor tables.
 pub fn check(kinds: &[u8], types: &[u8], gates: &[u16], sources: &[u16], drains: &[u16]) -> Answer
-    ensures { λ r. ⌜ r ≡ checkAnswer (netOf (now (kinds .entry)) (now (types .entry)) (now (gates .entry)) (now (sources .entry)) (now (drains .entry))) ⌝ }
+    ensures { λ r. ⌜ r ≡ checkAnswer (lentNet kinds types gates sources drains) ⌝ }
 {
     match judges::judge_check(kinds, types, gates, sources, drains) {
         Verdict::Refused(a) => a,
@@ -34,7 +33,7 @@ pub fn check(kinds: &[u8], types: &[u8], gates: &[u16], sources: &[u16], drains:
 
 // Every state becomes X.
 fn fill_x(states: &mut [u8])
-    ensures { λ _. ⌜ now (states .exit) ≡ tab (length (now (states .entry))) (λ v. 2) ⌝ }
+    ensures { λ _. ⌜ left states ≡ tab (length (lent states)) (λ v. 2) ⌝ }
 {
     let mut v = 0;
     while v < states.len() {
@@ -45,7 +44,7 @@ fn fill_x(states: &mut [u8])
 
 // Resets the states of a network: every state becomes X, whatever it was.
 pub fn reset(kinds: &[u8], states: &mut [u8]) -> Answer
-    ensures { λ r. ⌜ Leaves (resetOutcome (now (kinds .entry)) (now (states .entry))) r (now (states .exit)) [] ⌝ }
+    ensures { λ r. ⌜ Leaves (resetOutcome (lent kinds) (lent states)) r (left states) [] ⌝ }
 {
     match judges::judge_reset(kinds, states) {
         Verdict::Refused(a) => a,
@@ -66,7 +65,8 @@ pub fn step(
     drains: &[u16],
     work: &mut [u16],
 ) -> Answer
-    ensures { λ r. ⌜ Leaves (stepOutcome (netOf (now (kinds .entry)) (now (types .entry)) (now (gates .entry)) (now (sources .entry)) (now (drains .entry))) (now (states .entry)) (now (work .entry))) r (now (states .exit)) (now (work .exit)) ⌝ }
+    ensures { λ r. let net = lentNet kinds types gates sources drains in
+        ⌜ Leaves (stepOutcome net (lent states) (lent work)) r (left states) (left work) ⌝ }
 {
     match judges::judge_step(kinds, states, types, gates, sources, drains, work) {
         Verdict::Refused(a) => a,
@@ -95,7 +95,9 @@ pub fn unit_run(
     limit: u32,
     work: &mut [u16],
 ) -> Answer
-    ensures { λ r. ⌜ Leaves (unitOutcome (netOf (now (kinds .entry)) (now (types .entry)) (now (gates .entry)) (now (sources .entry)) (now (drains .entry))) (now (states .entry)) (changesOf (now («change_nodes» .entry)) (now («change_states» .entry))) limit (now (work .entry))) r (now (states .exit)) (now (work .exit)) ⌝ }
+    ensures { λ r. let net = lentNet kinds types gates sources drains in
+        let changes = lentChanges «change_nodes» «change_states» in
+        ⌜ Leaves (unitOutcome net (lent states) changes limit (lent work)) r (left states) (left work) ⌝ }
 {
     match judges::judge_unit(
         kinds,
@@ -137,7 +139,9 @@ pub fn ternary_run(
     change_states: &[u8],
     work: &mut [u16],
 ) -> Answer
-    ensures { λ r. ⌜ Leaves (ternaryOutcome (netOf (now (kinds .entry)) (now (types .entry)) (now (gates .entry)) (now (sources .entry)) (now (drains .entry))) (now (states .entry)) (changesOf (now («change_nodes» .entry)) (now («change_states» .entry))) (now (work .entry))) r (now (states .exit)) (now (work .exit)) ⌝ }
+    ensures { λ r. let net = lentNet kinds types gates sources drains in
+        let changes = lentChanges «change_nodes» «change_states» in
+        ⌜ Leaves (ternaryOutcome net (lent states) changes (lent work)) r (left states) (left work) ⌝ }
 {
     match judges::judge_ternary(
         kinds,

@@ -4,8 +4,8 @@ use mathlib.Core.List.{[], _∷_}
 use borrow.Author.Needs.{needs}
 use Rattle.model.specs.Net.{netOf}
 use Rattle.model.specs.Rules.{kindRule, wireRule, checkSizes, checkRules}
-use Rattle.tables.proofs.Fitting.{check-sized}
-use Rattle.judges.proofs.Judging.{size-broken, size-kept}
+use Rattle.basis.proofs.Fitting.{check-sized}
+use Rattle.basis.proofs.Judging.{size-broken, size-kept}
 use Rattle.judges.proofs.judge_check.Statement.{statement}
 use Rattle.judges.proofs.judge_check.Tie as tie
 

@@ -3,7 +3,7 @@ use mathlib.Core.List.{[], _∷_}
 use borrow.Author.Needs.{needs}
 use Rattle.model.specs.Net.{netOf}
 use Rattle.model.specs.Rules.{kindRule, wireRule, stateRule}
-use Rattle.judges.proofs.Judging.{refused-first, accepted-first, rule-broken, rule-kept}
+use Rattle.basis.proofs.Judging.{refused-first, accepted-first, rule-broken, rule-kept}
 use Rattle.judges.proofs.judge_contents.Statement.{statement}
 use Rattle.judges.proofs.judge_contents.Tie as tie
 

@@ -1,7 +1,7 @@
 -- `judge_kinds` meets its contract: the search for a kind above 2 ends at the rule's first place or past its last. Assumes nothing.
 use borrow.Author.Needs.{needs}
 use Rattle.model.specs.Rules.{kindRule}
-use Rattle.judges.proofs.Judging.{rule-broken, rule-kept}
+use Rattle.basis.proofs.Judging.{rule-broken, rule-kept}
 use Rattle.judges.proofs.judge_kinds.Statement.{statement}
 use Rattle.judges.proofs.judge_kinds.Tie as tie
 

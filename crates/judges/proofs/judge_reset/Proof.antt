@@ -3,8 +3,8 @@ use mathlib.Core.Path.{sym, _∙_}
 use mathlib.Core.List.{[], _∷_}
 use borrow.Author.Needs.{needs}
 use Rattle.model.specs.Rules.{kindRule, resetSizes, resetRules}
-use Rattle.tables.proofs.Fitting.{reset-sized}
-use Rattle.judges.proofs.Judging.{size-broken, size-kept}
+use Rattle.basis.proofs.Fitting.{reset-sized}
+use Rattle.basis.proofs.Judging.{size-broken, size-kept}
 use Rattle.judges.proofs.judge_reset.Statement.{statement}
 use Rattle.judges.proofs.judge_reset.Tie as tie
 

@@ -4,7 +4,7 @@ use borrow.Author.Needs.{needs}
 use Rattle.model.specs.Net.{netOf}
 use Rattle.model.specs.Run.{changesOf}
 use Rattle.model.specs.Rules.{kindRule, wireRule, stateRule, changeRule, changeTests, runRules}
-use Rattle.judges.proofs.Judging.{refused-first, accepted-first, rule-broken, rule-kept}
+use Rattle.basis.proofs.Judging.{refused-first, accepted-first, rule-broken, rule-kept}
 use Rattle.judges.proofs.judge_run.Statement.{statement}
 use Rattle.judges.proofs.judge_run.Tie as tie
 

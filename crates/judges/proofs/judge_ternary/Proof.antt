@@ -4,8 +4,8 @@ use borrow.Author.Needs.{needs}
 use Rattle.model.specs.Net.{netOf}
 use Rattle.model.specs.Run.{changesOf}
 use Rattle.model.specs.Rules.{runSizes, runRules, ternaryRules}
-use Rattle.tables.proofs.Fitting.{step-sized, run-sized}
-use Rattle.judges.proofs.Judging.{size-broken, size-kept}
+use Rattle.basis.proofs.Fitting.{step-sized, run-sized}
+use Rattle.basis.proofs.Judging.{size-broken, size-kept}
 use Rattle.judges.proofs.judge_ternary.Statement.{statement}
 use Rattle.judges.proofs.judge_ternary.Tie as tie
 

@@ -5,8 +5,8 @@ use borrow.Author.Needs.{needs}
 use Rattle.model.specs.Net.{netOf}
 use Rattle.model.specs.Run.{changesOf}
 use Rattle.model.specs.Rules.{limitRule, runSizes, runRules, unitRules}
-use Rattle.tables.proofs.Fitting.{step-sized, run-sized}
-use Rattle.judges.proofs.Judging.{size-broken, size-kept, limit-broken, limit-kept}
+use Rattle.basis.proofs.Fitting.{step-sized, run-sized}
+use Rattle.basis.proofs.Judging.{size-broken, size-kept, limit-broken, limit-kept}
 use Rattle.judges.proofs.judge_unit.Statement.{statement}
 use Rattle.judges.proofs.judge_unit.Tie as tie
 

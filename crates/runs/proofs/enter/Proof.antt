@@ -4,7 +4,7 @@ use native.Mathlib.Omega.{arith}
 use mathlib.Core.Path.{_≡_, refl, _∙_}
 use lib.ListN.{length, length-set}
 use borrow.Author.Needs.{needs}
-use Rattle.runs.proofs.Entering.{entering, entering-more, entering-all}
+use Rattle.basis.proofs.Entering.{entering, entering-more, entering-all}
 use Rattle.runs.proofs.enter.Statement.{statement}
 use Rattle.runs.proofs.enter.Tie as tie
 

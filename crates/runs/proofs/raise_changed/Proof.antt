@@ -5,7 +5,7 @@ use mathlib.Core.Path.{_≡_, refl, sym, ap, _∙_}
 use lib.ListN.{length, length-set}
 use borrow.Author.Needs.{needs}
 use Rattle.model.specs.Run.{raised}
-use Rattle.runs.proofs.Entering.{entering, entering-all, raised-none, raising-more}
+use Rattle.basis.proofs.Entering.{entering, entering-all, raised-none, raising-more}
 use Rattle.runs.proofs.raise_changed.Statement.{statement}
 use Rattle.runs.proofs.raise_changed.Tie as tie
 

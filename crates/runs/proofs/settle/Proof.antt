@@ -7,14 +7,18 @@ use lib.ListN.{length}
 use borrow.Author.Needs.{needs}
 use Rattle.model.specs.Net.{step, netOf}
 use Rattle.model.specs.Run.{settle}
-use Rattle.stepper.proofs.Least.{checked-with}
-use Rattle.runs.specs.Runs.{Spared}
-use Rattle.runs.proofs.Steps.{ends, stops, goes}
+use Rattle.model.specs.Rules.{cells}
+use Rattle.basis.proofs.Acceptance.{checked-with}
+use Rattle.basis.specs.Cells.{Spared}
+use Rattle.basis.proofs.Steps.{one-sized, ends, stops, goes}
 use Rattle.runs.proofs.settle.Statement.{statement}
 use Rattle.runs.proofs.settle.Tie as tie
 
 abbrev Inv-loop : tie.InvT-loop
-Inv-loop kinds states₀ types gates sources drains work₀ limit count₀ states work count = (count ≤ limit) × (length states ≡ length states₀) × (length work ≡ length work₀) × (settle (step (netOf kinds types gates sources drains)) limit 0 states₀ ≡ settle (step (netOf kinds types gates sources drains)) (limit - count) count states) × Spared (netOf kinds types gates sources drains) work₀ work
+Inv-loop kinds states₀ types gates sources drains work₀ limit count₀ states work count =
+    let net = netOf kinds types gates sources drains in
+    (count ≤ limit) × (length states ≡ length states₀) × (length work ≡ length work₀)
+    × (settle (step net) limit 0 states₀ ≡ settle (step net) (limit - count) count states) × Spared (cells net) work₀ work
 
 abbrev μ-loop : tie.MeasureT-loop
 μ-loop kinds states₀ types gates sources drains work₀ limit count₀ states work count = limit - count
@@ -46,7 +50,10 @@ same-length-2 c =
     omega (arith, after-evaluate .kept, turn .inv .2)
 
 returns : tie.Need-returns Inv-loop μ-loop
-returns c = ends (c .before .before .before .before .before .before .before .before .before .loop .inv .1 ∙ c .before .before .before .before .before .before .before .before .before .before .before .before .before .before .before .before .before .pre .0 .states) (c .before .before .before .before .before .before .evaluate .ensures) (c .before .differing .ensures) (c .before .before .before .before .before .before .before .before .before .before .before .before .before .before .before .before .before .args .limit) (c .before .before .before .before .before .before .before .before .before .loop .inv .3) (c .before .before .before .before .before .before .before .before .before .loop .inv .4) (c .if1 .taken)
+returns c =
+    let start = c .before .before .before .before .before .before .before .before .before .before .before .before .before .before .before .before .before in
+    let turn = c .before .before .before .before .before .before .before .before .before .loop in
+    ends (c .before .before .before .before .before .before .evaluate .ensures) (turn .inv .1 ∙ start .pre .0 .states) (one-sized _) (c .before .differing .ensures) (start .args .limit) (turn .inv .3) (turn .inv .4) (c .if1 .taken)
 
 same-length-3 : tie.Need-same-length-3 Inv-loop μ-loop
 same-length-3 c =
@@ -60,7 +67,11 @@ same-length-4 c =
     omega (arith, after-evaluate .kept, turn .inv .2)
 
 returns-2 : tie.Need-returns-2 Inv-loop μ-loop
-returns-2 c = stops (c .before .before .before .before .before .before .before .before .before .before .loop .inv .1 ∙ c .before .before .before .before .before .before .before .before .before .before .before .before .before .before .before .before .before .before .pre .0 .states) (c .before .before .before .before .before .before .before .evaluate .ensures) (c .before .before .differing .ensures) (c .before .before .before .before .before .before .before .before .before .before .before .before .before .before .before .before .before .before .args .limit) (c .before .before .before .before .before .before .before .before .before .before .loop .inv .3) (c .before .before .before .before .before .before .before .before .before .before .loop .inv .4) (c .before .if1 .left) (c .if2 .taken)
+returns-2 c =
+    let start = c .before .before .before .before .before .before .before .before .before .before .before .before .before .before .before .before .before .before in
+    let turn = c .before .before .before .before .before .before .before .before .before .before .loop in
+    stops (c .before .before .before .before .before .before .before .evaluate .ensures) (turn .inv .1 ∙ start .pre .0 .states) (one-sized _) (c .before .before .differing .ensures) (start .args .limit) (turn .inv .3) (turn .inv .4) (c .before .if1 .left)
+    (c .if2 .taken)
 
 store-requires : tie.Need-store-requires Inv-loop μ-loop
 store-requires c κs =
@@ -76,7 +87,17 @@ loop-less : tie.Need-loop-less Inv-loop μ-loop
 loop-less c = search needs
 
 loop-again : tie.Need-loop-again Inv-loop μ-loop
-loop-again c = (omega arith, omega (arith, c .before .before .store .kept, c .before .before .before .before .before .before .before .before .before .before .before .before .before .before .before .loop .inv .1), omega (arith, c .before .before .before .before .before .before .before .before .before .before .before .before .evaluate .kept, c .before .before .before .before .before .before .before .before .before .before .before .before .before .before .before .loop .inv .2), goes (c .before .before .before .before .before .before .before .before .before .before .before .before .before .before .before .loop .inv .1 ∙ c .before .before .before .before .before .before .before .before .before .before .before .before .before .before .before .before .before .before .before .before .before .before .before .pre .0 .states) (c .before .before .before .before .before .before .before .before .before .before .before .before .evaluate .ensures) (c .before .before .before .before .before .before .before .differing .ensures) (c .before .before .before .before .before .before .before .before .before .before .before .before .before .before .before .before .before .before .before .before .before .before .before .args .limit) (c .before .before .before .before .before .before .before .before .before .before .before .before .before .before .before .loop .inv .3) (c .before .before .before .before .before .before .if1 .left) (omega arith) (c .before .before .store .ensures), λ k l. c .before .before .before .before .before .before .before .before .before .before .before .before .evaluate .ensures .after k l ∙ c .before .before .before .before .before .before .before .before .before .before .before .before .before .before .before .loop .inv .4 k l)
+loop-again c =
+    let start = c .before .before .before .before .before .before .before .before .before .before .before .before .before .before .before .before .before .before .before .before .before .before .before in
+    let turn = c .before .before .before .before .before .before .before .before .before .before .before .before .before .before .before .loop in
+    let after-evaluate = c .before .before .before .before .before .before .before .before .before .before .before .before .evaluate in
+    let stored = c .before .before .store in (
+      omega arith,
+      omega (arith, stored .kept, turn .inv .1),
+      omega (arith, after-evaluate .kept, turn .inv .2),
+      goes (after-evaluate .ensures) (turn .inv .1 ∙ start .pre .0 .states) (one-sized _) (c .before .before .before .before .before .before .before .differing .ensures) (start .args .limit) (turn .inv .3) (c .before .before .before .before .before .before .if1 .left) (omega arith) (stored .ensures),
+      λ k l. after-evaluate .ensures .after k l ∙ turn .inv .4 k l,
+    )
 
 pub settle-spec : {M : Type 1} → statement M
 settle-spec =

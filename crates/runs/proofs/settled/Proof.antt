@@ -1,6 +1,6 @@
 -- `runs::settled` meets its contract: no node differs. Assumes nothing.
 use borrow.Author.Needs.{needs}
-use Rattle.runs.proofs.Steps.{settled-test}
+use Rattle.basis.proofs.Steps.{one-sized, settled-test}
 use Rattle.runs.proofs.settled.Statement.{statement}
 use Rattle.runs.proofs.settled.Tie as tie
 
@@ -14,7 +14,10 @@ same-length : tie.Need-same-length
 same-length c = search needs
 
 returns : tie.Need-returns
-returns c = record { tells = settled-test (c .before .before .before .before .before .before .before .before .before .before .before .before .before .pre .states) (c .before .before .before .before .evaluate .ensures) (c .differing .ensures); spared = c .before .before .before .before .evaluate .ensures .after }
+returns c =
+    let start = c .before .before .before .before .before .before .before .before .before .before .before .before .before in
+    let evaluated = c .before .before .before .before .evaluate .ensures in
+    record { tells = settled-test evaluated (start .pre .states) (one-sized _) (c .differing .ensures); spared = evaluated .after }
 
 pub settled-spec : {M : Type 1} → statement M
 settled-spec = tie.close (tie.spec evaluate-requires differing-requires same-length returns)

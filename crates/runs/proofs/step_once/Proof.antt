@@ -2,7 +2,7 @@
 use native.Mathlib.Omega.{arith}
 use mathlib.Core.Path.{_∙_}
 use borrow.Author.Needs.{needs}
-use Rattle.stepper.proofs.Next.{evaluated-count, evaluated-states}
+use Rattle.basis.proofs.Steps.{one-sized, evaluated-count, evaluated-states}
 use Rattle.runs.proofs.step_once.Statement.{statement}
 use Rattle.runs.proofs.step_once.Tie as tie
 
@@ -25,7 +25,14 @@ same-length-2 : tie.Need-same-length-2
 same-length-2 c = search needs
 
 returns : tie.Need-returns
-returns c = record { count = c .before .before .before .before .before .differing .ensures ∙ evaluated-count (c .before .before .before .before .before .before .before .before .before .before .before .before .before .before .before .before .before .before .before .before .pre .states) (c .before .before .before .before .before .before .before .before .before .before .evaluate .ensures); states = c .before .before .store .ensures ∙ evaluated-states (c .before .before .before .before .before .before .before .before .before .before .before .before .before .before .before .before .before .before .before .before .pre .states) (c .before .before .before .before .before .before .before .before .before .before .evaluate .ensures); spared = c .before .before .before .before .before .before .before .before .before .before .evaluate .ensures .after }
+returns c =
+    let start = c .before .before .before .before .before .before .before .before .before .before .before .before .before .before .before .before .before .before .before .before in
+    let evaluated = c .before .before .before .before .before .before .before .before .before .before .evaluate .ensures in
+    record {
+      count = c .before .before .before .before .before .differing .ensures ∙ evaluated-count evaluated (start .pre .states);
+      states = c .before .before .store .ensures ∙ evaluated-states evaluated (start .pre .states) (one-sized _);
+      spared = evaluated .after;
+    }
 
 pub step-once-spec : {M : Type 1} → statement M
 step-once-spec =

@@ -2,8 +2,9 @@
 use native.Mathlib.Omega.{arith}
 use mathlib.Core.Path.{refl}
 use borrow.Author.Needs.{needs}
-use Rattle.stepper.proofs.Least.{checked-with}
-use Rattle.runs.proofs.Whole.{named-of, halved}
+use Rattle.laws.proofs.RuleOne.{stepper}
+use Rattle.basis.proofs.Acceptance.{checked-with, named-of}
+use Rattle.basis.proofs.Runs.{halved}
 use Rattle.runs.proofs.ternary_core.Statement.{statement}
 use Rattle.runs.proofs.ternary_core.Tie as tie
 
@@ -49,7 +50,7 @@ returns c =
     let after-raise-changed = c .before .before .before .before .before .before .before .before .before .before .before .before .before .before .before .before .before .before .before .before .raise-changed in
     let after-enter = c .before .before .before .before .before .before .before .before .before .enter in
     let after-settle2 = c .before .before .before .before .settle2 in
-    halved _ _ _ (start .pre .1) (start .pre .2) (start .pre .0 .states) (omega (arith, after-settle .kept, after-raise-changed .kept)) (after-raise-changed .ensures) (after-settle .ensures) (after-enter .ensures) (after-settle2 .ensures)
+    halved (stepper _) _ _ _ (start .pre .1) (start .pre .2) (start .pre .0 .states) (omega (arith, after-settle .kept, after-raise-changed .kept)) (after-raise-changed .ensures) (after-settle .ensures) (after-enter .ensures) (after-settle2 .ensures)
 
 pub ternary-core-spec : {M : Type 1} → statement M
 ternary-core-spec =

@@ -2,9 +2,9 @@
 use native.Mathlib.Omega.{arith}
 use mathlib.Core.Path.{refl}
 use borrow.Author.Needs.{needs}
-use Rattle.stepper.proofs.Least.{checked-with}
-use Rattle.runs.proofs.Entering.{named-at}
-use Rattle.runs.proofs.Whole.{limit-high, unit-ended}
+use Rattle.basis.proofs.Acceptance.{checked-with}
+use Rattle.basis.proofs.Acceptance.{named-at}
+use Rattle.basis.proofs.Runs.{limit-high, unit-ended}
 use Rattle.runs.proofs.unit_core.Statement.{statement}
 use Rattle.runs.proofs.unit_core.Tie as tie
 

@@ -8,7 +8,7 @@ use lib.Dec.{eqb}
 use lib.ListN.{length}
 use borrow.Author.Needs.{needs}
 use Rattle.model.specs.Places.{at, count}
-use Rattle.stepper.proofs.Stores.{one-few, count-few, count-more, count-end}
+use Rattle.basis.proofs.Altered.{one-few, count-few, count-more, count-end}
 use Rattle.stepper.proofs.differing.Statement.{statement}
 use Rattle.stepper.proofs.differing.Tie as tie
 

@@ -2,7 +2,8 @@
 use native.Mathlib.Omega.{arith}
 use mathlib.Core.Path.{refl}
 use borrow.Author.Needs.{needs}
-use Rattle.stepper.proofs.Least.{evaluated, checked-with}
+use Rattle.basis.proofs.Acceptance.{checked-with}
+use Rattle.stepper.proofs.Least.{evaluated}
 use Rattle.stepper.proofs.evaluate.Statement.{statement}
 use Rattle.stepper.proofs.evaluate.Tie as tie
 

@@ -6,8 +6,8 @@ use mathlib.Core.Path.{_≡_, refl, _∙_}
 use lib.ListN.{length, length-set}
 use borrow.Author.Needs.{needs}
 use Rattle.model.specs.Places.{at}
-use Rattle.stepper.specs.Start.{Written}
-use Rattle.stepper.proofs.Stores.{written-none, written-more, written-end, written-all}
+use Rattle.basis.specs.Cells.{Written}
+use Rattle.basis.proofs.Cells.{written-none, written-more, written-end, written-all}
 use Rattle.stepper.proofs.store.Statement.{statement}
 use Rattle.stepper.proofs.store.Tie as tie
 

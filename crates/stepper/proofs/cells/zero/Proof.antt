@@ -5,8 +5,8 @@ use native.Mathlib.Omega.{arith}
 use mathlib.Core.Path.{_≡_, refl}
 use lib.ListN.{length, length-set}
 use borrow.Author.Needs.{needs}
-use Rattle.stepper.specs.Start.{Written}
-use Rattle.stepper.proofs.Stores.{written-none, written-more, written-end}
+use Rattle.basis.specs.Cells.{Written}
+use Rattle.basis.proofs.Cells.{written-none, written-more, written-end}
 use Rattle.stepper.proofs.cells.zero.Statement.{statement}
 use Rattle.stepper.proofs.cells.zero.Tie as tie
 

@@ -5,8 +5,10 @@ use native.Mathlib.Omega.{arith}
 use mathlib.Core.Path.{_≡_, refl}
 use lib.ListN.{length, length-set}
 use borrow.Author.Needs.{needs}
-use Rattle.stepper.specs.Start.{Written, Bytes, alone, next}
-use Rattle.stepper.proofs.Stores.{written-none, written-more, written-end, bytes-more}
+use Rattle.basis.specs.Cells.{Written, Bytes}
+use Rattle.model.specs.Net.{alone}
+use Rattle.stepper.specs.Start.{next}
+use Rattle.basis.proofs.Cells.{written-none, written-more, written-end, bytes-more}
 use Rattle.stepper.proofs.start.finish.Statement.{statement}
 use Rattle.stepper.proofs.start.finish.Tie as tie
 

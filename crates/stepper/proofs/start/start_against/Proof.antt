@@ -6,8 +6,10 @@ use mathlib.Core.Path.{_≡_, refl}
 use lib.ListN.{length, length-set}
 use borrow.Author.Needs.{needs}
 use Rattle.model.specs.Places.{at}
-use Rattle.stepper.specs.Start.{Written, alone, begins}
-use Rattle.stepper.proofs.Stores.{written-none, written-more, written-end}
+use Rattle.basis.specs.Cells.{Written}
+use Rattle.model.specs.Net.{alone}
+use Rattle.stepper.specs.Start.{begins}
+use Rattle.basis.proofs.Cells.{written-none, written-more, written-end}
 use Rattle.stepper.proofs.start.start_against.Statement.{statement}
 use Rattle.stepper.proofs.start.start_against.Tie as tie
 

@@ -5,8 +5,9 @@ use native.Mathlib.Omega.{arith}
 use mathlib.Core.Path.{_≡_, refl}
 use lib.ListN.{length, length-set}
 use borrow.Author.Needs.{needs}
-use Rattle.stepper.specs.Start.{Written, own}
-use Rattle.stepper.proofs.Stores.{written-none, written-more, written-end}
+use Rattle.basis.specs.Cells.{Written}
+use Rattle.stepper.specs.Start.{own}
+use Rattle.basis.proofs.Cells.{written-none, written-more, written-end}
 use Rattle.stepper.proofs.start.start_definite.Statement.{statement}
 use Rattle.stepper.proofs.start.start_definite.Tie as tie
 

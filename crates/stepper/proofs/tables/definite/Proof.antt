@@ -3,7 +3,8 @@ use native.Mathlib.Omega.{arith}
 use mathlib.Core.Logic.{inr}
 use mathlib.Core.Path.{refl}
 use borrow.Author.Needs.{needs}
-use Rattle.stepper.proofs.Least.{definite, checked-with}
+use Rattle.basis.proofs.Acceptance.{checked-with}
+use Rattle.stepper.proofs.Least.{definite}
 use Rattle.stepper.proofs.tables.definite.Statement.{statement}
 use Rattle.stepper.proofs.tables.definite.Tie as tie
 

@@ -3,7 +3,8 @@ use native.Mathlib.Omega.{arith}
 use mathlib.Core.Logic.{inl}
 use mathlib.Core.Path.{refl}
 use borrow.Author.Needs.{needs}
-use Rattle.stepper.proofs.Least.{against, checked-with}
+use Rattle.basis.proofs.Acceptance.{checked-with}
+use Rattle.stepper.proofs.Least.{against}
 use Rattle.stepper.proofs.tables.possible.Statement.{statement}
 use Rattle.stepper.proofs.tables.possible.Tie as tie
 

@@ -10,7 +10,7 @@ use borrow.Author.Tests.{lt-ltb, le-ltb}
 use lib.ListN.{length}
 use lib.Dec.{ltb}
 use Rattle.model.specs.Places.{at}
-use Rattle.tables.proofs.Finding.{NoneBelow, none-yet, first-at, first-none}
+use Rattle.basis.proofs.Finding.{NoneBelow, none-yet, first-at, first-none}
 use Rattle.tables.proofs.places.first_above.Statement.{statement}
 use Rattle.tables.proofs.places.first_above.Tie as tie
 

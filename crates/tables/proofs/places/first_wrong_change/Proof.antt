@@ -11,7 +11,7 @@ use Rattle.model.specs.Places.{any}
 use Rattle.model.specs.Net.{netOf}
 use Rattle.model.specs.Run.{changesOf}
 use Rattle.model.specs.Rules.{changeTests}
-use Rattle.tables.proofs.Finding.{NoneBelow, none-yet, first-at, first-none}
+use Rattle.basis.proofs.Finding.{NoneBelow, none-yet, first-at, first-none}
 use Rattle.tables.proofs.places.first_wrong_change.Statement.{statement}
 use Rattle.tables.proofs.places.first_wrong_change.Tie as tie
 

@@ -9,7 +9,7 @@ use lib.ListN.{length}
 use Rattle.model.specs.Places.{any}
 use Rattle.model.specs.Net.{Net, netOf}
 use Rattle.model.specs.Rules.{wireTests}
-use Rattle.tables.proofs.Finding.{NoneBelow, none-yet, first-at, first-none}
+use Rattle.basis.proofs.Finding.{NoneBelow, none-yet, first-at, first-none}
 use Rattle.tables.proofs.places.first_wrong_wire.Statement.{statement}
 use Rattle.tables.proofs.places.first_wrong_wire.Tie as tie
 

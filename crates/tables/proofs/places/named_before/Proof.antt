@@ -10,7 +10,7 @@ use borrow.Author.Tests.{eq-eqb, ne-eqb}
 use lib.Dec.{eqb}
 use Rattle.model.specs.Places.{at}
 use Rattle.laws.proofs.Places.{some-of}
-use Rattle.tables.proofs.Finding.{NoneBelow, none-yet, some-none}
+use Rattle.basis.proofs.Finding.{NoneBelow, none-yet, some-none}
 use Rattle.tables.proofs.places.named_before.Statement.{statement}
 use Rattle.tables.proofs.places.named_before.Tie as tie
 

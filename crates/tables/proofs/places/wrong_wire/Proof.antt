@@ -6,7 +6,7 @@ use borrow.Author.Tests.{lt-ltb, le-ltb}
 use lib.ListN.{length}
 use Rattle.model.specs.Places.{at}
 use Rattle.model.specs.Rules.{wireTests}
-use Rattle.tables.proofs.Finding.{leb-not}
+use Rattle.basis.proofs.Finding.{leb-not}
 use Rattle.tables.proofs.places.wrong_wire.Statement.{statement}
 use Rattle.tables.proofs.places.wrong_wire.Tie as tie
 

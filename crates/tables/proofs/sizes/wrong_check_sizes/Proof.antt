@@ -2,7 +2,7 @@
 use borrow.Author.Needs.{needs}
 use Rattle.model.specs.Net.{netOf}
 use Rattle.model.specs.Rules.{nodeSizes, wireSizes, checkSizes}
-use Rattle.tables.proofs.Fitting.{passed-first, failed-first}
+use Rattle.basis.proofs.Fitting.{passed-first, failed-first}
 use Rattle.tables.proofs.sizes.wrong_check_sizes.Statement.{statement}
 use Rattle.tables.proofs.sizes.wrong_check_sizes.Tie as tie
 

@@ -3,7 +3,7 @@ use mathlib.Core.Path.{sym}
 use mathlib.Core.Bool.{or-false}
 use borrow.Author.Needs.{needs}
 use Rattle.model.specs.Rules.{nodeSizes, stateSizes, resetSizes}
-use Rattle.tables.proofs.Fitting.{passed-first, failed-first}
+use Rattle.basis.proofs.Fitting.{passed-first, failed-first}
 use Rattle.tables.proofs.sizes.wrong_reset_sizes.Statement.{statement}
 use Rattle.tables.proofs.sizes.wrong_reset_sizes.Tie as tie
 

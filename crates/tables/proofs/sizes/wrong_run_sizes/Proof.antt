@@ -3,7 +3,7 @@ use borrow.Author.Needs.{needs}
 use Rattle.model.specs.Net.{netOf}
 use Rattle.model.specs.Run.{changesOf}
 use Rattle.model.specs.Rules.{changeSizes, stepSizes, runSizes}
-use Rattle.tables.proofs.Fitting.{passed-first, failed-first}
+use Rattle.basis.proofs.Fitting.{passed-first, failed-first}
 use Rattle.tables.proofs.sizes.wrong_run_sizes.Statement.{statement}
 use Rattle.tables.proofs.sizes.wrong_run_sizes.Tie as tie
 

@@ -5,7 +5,7 @@ use mathlib.Core.List.{[], _++_}
 use borrow.Author.Needs.{needs}
 use Rattle.model.specs.Net.{netOf}
 use Rattle.model.specs.Rules.{wireSizes, workSizes, resetSizes, stepSizes}
-use Rattle.tables.proofs.Fitting.{passed-first, failed-first, reset-sized, wires-sized}
+use Rattle.basis.proofs.Fitting.{passed-first, failed-first, reset-sized, wires-sized}
 use Rattle.tables.proofs.sizes.wrong_step_sizes.Statement.{statement}
 use Rattle.tables.proofs.sizes.wrong_step_sizes.Tie as tie
 

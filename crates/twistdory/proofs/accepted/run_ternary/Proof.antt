@@ -3,8 +3,8 @@ use native.Mathlib.Omega.{arith}
 use mathlib.Core.Path.{refl, sym, _∙_}
 use borrow.Author.Needs.{needs}
 use borrow.Author.Tests.{not-true, not-false}
-use Rattle.judges.proofs.Acceptance.{ternary-accepted}
-use Rattle.twistdory.proofs.Running.{checked, start-leaves, ternary-leaves}
+use Rattle.basis.proofs.Acceptance.{checked, ternary-accepted}
+use Rattle.twistdory.proofs.Running.{start-leaves, ternary-leaves}
 use Rattle.twistdory.proofs.accepted.run_ternary.Statement.{statement}
 use Rattle.twistdory.proofs.accepted.run_ternary.Tie as tie
 
@@ -62,7 +62,7 @@ returns-2 c =
     let kept-before = rest .kept in
     let start = c .before .before .before .before .before .before .before .before .before .before .before .before .before .before .before .before .before .before .before .before .before .before .before .before .before .before .before in
     ternary-leaves _ _ _ _ _ (omega arith) _ (c .before .before .before .before .before .before .before .before .before .before .before .before .before .before .before .before .before .cells-for .ensures) (c .before .before .clear2 .ensures) _ (start .pre)
-    (sym (rest .ensures .tells) ∙ not-false _ (c .before .before .before .before .before .before .before .before .before .before .before .if1 .left)) _ (rest .ensures .spared) _ _ _ (ran .ensures)
+    (sym (rest .ensures .tells) ∙ not-false _ (c .before .before .before .before .before .before .before .before .before .before .before .if1 .left)) (rest .ensures .spared) (ran .ensures)
 
 pub run-ternary-spec : {M : Type 1} → statement M
 run-ternary-spec =

@@ -2,8 +2,8 @@
 use native.Mathlib.Omega.{arith}
 use mathlib.Core.Path.{refl}
 use borrow.Author.Needs.{needs}
-use Rattle.judges.proofs.Acceptance.{unit-accepted}
-use Rattle.twistdory.proofs.Running.{checked, named, unit-leaves}
+use Rattle.basis.proofs.Acceptance.{checked, named, unit-accepted}
+use Rattle.twistdory.proofs.Running.{unit-leaves}
 use Rattle.twistdory.proofs.accepted.run_unit.Statement.{statement}
 use Rattle.twistdory.proofs.accepted.run_unit.Tie as tie
 
@@ -41,7 +41,7 @@ returns c =
     let kept = ran .kept in
     let start = c .before .before .before .before .before .before .before .before .before .before .before .before .before .before .before .before .before .before .before .before .before .before .before in
     rw (c .ran-answer .ensures, c .before .limit-of .ensures)
-    (unit-leaves _ _ _ _ _ (omega arith) _ (c .before .before .before .before .before .before .before .before .before .before .before .before .before .cells-for .ensures) (c .before .before .before .before .clear .ensures) _ _ (start .pre) _ _ _ (ran .ensures))
+    (unit-leaves _ _ _ _ _ (omega arith) _ (c .before .before .before .before .before .before .before .before .before .before .before .before .before .cells-for .ensures) (c .before .before .before .before .clear .ensures) _ _ (start .pre) (ran .ensures))
 
 pub run-unit-spec : {M : Type 1} → statement M
 run-unit-spec =

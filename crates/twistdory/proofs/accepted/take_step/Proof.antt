@@ -2,8 +2,8 @@
 use native.Mathlib.Omega.{arith}
 use mathlib.Core.Path.{refl}
 use borrow.Author.Needs.{needs}
-use Rattle.judges.proofs.Acceptance.{step-accepted}
-use Rattle.twistdory.proofs.Running.{checked, step-leaves}
+use Rattle.basis.proofs.Acceptance.{checked, step-accepted}
+use Rattle.twistdory.proofs.Running.{step-leaves}
 use Rattle.twistdory.proofs.accepted.take_step.Statement.{statement}
 use Rattle.twistdory.proofs.accepted.take_step.Tie as tie
 
@@ -35,7 +35,7 @@ returns c =
     let stepped = c .before .before .before .before .before .before .before .before .step-once in
     let kept = stepped .kept in
     step-leaves _ _ _ _ _ (omega arith) _ (c .before .before .before .before .before .before .before .before .before .before .before .cells-for .ensures) (c .before .before .clear .ensures)
-    (c .before .before .before .before .before .before .before .before .before .before .before .before .before .before .before .before .before .before .before .pre) _ _ (stepped .ensures)
+    (c .before .before .before .before .before .before .before .before .before .before .before .before .before .before .before .before .before .before .before .pre) (stepped .ensures)
 
 pub take-step-spec : {M : Type 1} → statement M
 take-step-spec =

@@ -12,7 +12,7 @@ use Rattle.model.specs.Net.{Net, nodes, transistors}
 use Rattle.model.specs.Run.{Changes}
 use Rattle.model.specs.Rules.{nodeSizes, stateSizes, wireSizes, workSizes, changeSizes, cells, checkSizes, resetSizes, stepSizes, runSizes}
 use Rattle.laws.proofs.Judged.{any-none}
-use Rattle.tables.specs.Lent.{Level, Sized, SizedChanges}
+use Rattle.basis.specs.Sound.{Level, Sized, SizedChanges}
 
 any-append : (bs cs : List Bool) → any (bs ++ cs) ≡ (any bs || any cs)
 any-append [] cs = refl
@@ -28,13 +28,13 @@ module _ (bs cs : List Bool) (b : Bool) (e : b ≡ any bs) where
   failed-first d h k = k ∙ sym (any-append bs cs ∙ ap (λ (x : Bool). x || any cs) (sym e ∙ h))
 
 -- all fail
-any-apart : (bs cs : List Bool) → any (bs ++ cs) ≡ false → (any bs ≡ false) × (any cs ≡ false)
+pub any-apart : (bs cs : List Bool) → any (bs ++ cs) ≡ false → (any bs ≡ false) × (any cs ≡ false)
 any-apart [] cs e = (refl, e)
 any-apart (true ∷ bs) cs e = absurd (true≢false e)
 any-apart (false ∷ bs) cs e = any-apart bs cs e
 
 -- an equal length
-level-at : (a b : ℕ) (bs : List Bool) (i : ℕ) → any bs ≡ false → getD bs i false ≡ not (eqb a b) → a ≡ b
+pub level-at : (a b : ℕ) (bs : List Bool) (i : ℕ) → any bs ≡ false → getD bs i false ≡ not (eqb a b) → a ≡ b
 level-at a b bs i e h = eqb-true a b (not-false (eqb a b) (sym h ∙ any-none bs e i))
 
 pub nodes-sized : (kinds : List ℕ) → any (nodeSizes kinds) ≡ false → (1 ≤ length kinds) × (length kinds ≤ mostNodes)

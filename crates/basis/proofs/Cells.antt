@@ -1,21 +1,16 @@
--- Cells stored one by one: what each store leaves, a row of them, and a count that goes along. Assumes nothing.
-use Prim.Native.Nat.{ℕ, zero, suc, _+_, _≤_, _<_}
+-- Cells stored one by one: what each store leaves, and a row of them. Assumes nothing.
+use Prim.Native.Nat.{ℕ, _+_, _≤_, _<_}
 use native.Mathlib.Omega.{arith}
 use native.Mathlib.Decide.{ℕ-discrete}
 use native.Mathlib.Nat.{zero-add}
-use native.Mathlib.Numerals.{add-one}
 use mathlib.Core.Path.{_≡_, refl, sym, ap, _∙_, subst}
-use mathlib.Core.Bool.{Bool, true, false, not, cond}
 use mathlib.Core.Logic.{_≢_}
 use mathlib.Core.List.{List}
 use lib.ListN.{length, set}
-use lib.Dec.{eqb}
 use lib.Seq.{getD-set-same, getD-set-other, ext-getD}
-use Rattle.model.specs.Places.{tab, count, at}
-use Rattle.model.specs.Entries.{altered}
+use Rattle.model.specs.Places.{tab, at}
 use Rattle.laws.proofs.Places.{length-tab, getD-tab}
-use Rattle.laws.proofs.Descent.{count-all}
-use Rattle.stepper.specs.Start.{Written, Bytes}
+use Rattle.basis.specs.Cells.{Written, Bytes}
 
 -- a store at i, seen at k
 pub data Stored (w : List ℕ) (i x k y : ℕ) : Type 0 where
@@ -57,27 +52,3 @@ bytes-more w i x l h f k a = go (stored w i x k l)
     go : {y : ℕ} → Stored w i x k y → y ≤ 255
     go (here e g) = omega arith
     go (else n g) = omega (arith, f k (omega arith))
-
-count-suc : (n : ℕ) (p : ℕ → Bool) → count (suc n) p ≡ count n p + cond (p n) 1 0
-count-suc zero p = omega arith
-count-suc (suc n) p = omega (arith, count-suc n (λ i. p (suc i)))
-
--- the nodes below v whose next state in w differs from that in s are counted, with one more, and then all
-module _ (s w : List ℕ) where
-  pub one-few : (v r : ℕ) → r ≡ cond (not (eqb (at w v) (at s v))) 1 0 → r ≤ 1
-  one-few v r e = omega (arith, e, go (not (eqb (at w v) (at s v))))
-    where
-      go : (b : Bool) → cond b 1 0 ≤ 1
-      go true = omega arith
-      go false = omega arith
-
-  pub count-few : (v k : ℕ) → k ≡ count v (λ i. not (eqb (at w i) (at s i))) → k ≤ v
-  count-few v k e = rw e (count-all v (λ i. not (eqb (at w i) (at s i))))
-
-  pub count-more : (v k r : ℕ) → k ≡ count v (λ i. not (eqb (at w i) (at s i))) → r ≡ cond (not (eqb (at w v) (at s v))) 1 0
-      → k + r ≡ count (v + 1) (λ i. not (eqb (at w i) (at s i)))
-  count-more v k r e f = rw (e, f, add-one) (sym (count-suc v (λ i. not (eqb (at w i) (at s i)))))
-
-  pub count-end : (v k : ℕ) → v ≡ length s → k ≡ count v (λ i. not (eqb (at w i) (at s i))) → k ≡ altered s w
-  unfolding altered
-  count-end v k l e = e ∙ ap (λ (n : ℕ). count n (λ i. not (eqb (at w i) (at s i)))) l

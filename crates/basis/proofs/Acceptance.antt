@@ -1,31 +1,24 @@
--- What a step and a run may rely on once what is lent is accepted. Assumes nothing.
+-- From what is accepted to what a step and a run ask for. Assumes nothing.
 use Prim.Native.Nat.{ℕ, _≤_, _<_}
 use native.Mathlib.Omega.{arith}
-use mathlib.Core.Path.{_≡_, subst}
-use mathlib.Core.Bool.{false}
+use mathlib.Core.Path.{_≡_, _∙_}
+use mathlib.Core.Bool.{Bool, false}
 use mathlib.Core.List.{List}
+use lib.ListN.{length}
 use borrow.Author.Tests.{ltb-false, ltb-true, not-false}
 use Rattle.model.specs.Bounds.{highestState, highestLimit, highestKind, highestType}
 use Rattle.model.specs.Places.{any, at}
 use Rattle.model.specs.Net.{Net, nodes, isInput}
-use Rattle.model.specs.Run.{Changes}
-use Rattle.model.specs.Rules.{Rule, judge, kindRule, wireRule, stateRule, wireTests, stepSizes, stepRules, runRules, unitRules, ternaryRules, runSizes}
-use Rattle.model.specs.Demands.{Clean, Judged, Enterable}
-use Rattle.model.specs.declared.Verdict.{Verdict}
+use Rattle.model.specs.Run.{Changes, changesOf}
+use Rattle.model.specs.Rules.{judge, kindRule, wireRule, stateRule, wireTests, stepSizes, stepRules, runRules, unitRules, ternaryRules, runSizes}
+use Rattle.model.specs.Demands.{Clean, Enterable}
 use Rattle.model.specs.declared.Verdict.the-variants.{Accepted}
 use Rattle.laws.proofs.Changes.{clean-changes}
-use Rattle.laws.proofs.Judged.{judge-says, any-none}
-use Rattle.tables.specs.Lent.{Sized, SizedChanges, Sound, Fit}
-use Rattle.tables.proofs.Fitting.{step-sized, run-sized}
+use Rattle.laws.proofs.Judged.{Kept, clean, any-none}
+use Rattle.basis.specs.Sound.{Sized, SizedChanges, Sound, Fit, Checked, Named}
+use Rattle.basis.proofs.Fitting.{step-sized, run-sized}
 
--- no place breaks the rule
-abbrev Kept : Rule → Type 0
-Kept r = (q : ℕ) → q < r .places → r .breaks q ≡ false
-
-clean : (rs : List Rule) → judge rs ≡ Accepted → Clean rs
-clean rs e = subst (λ (v : Verdict). Judged rs v) e (judge-says rs)
-
-sound : (net : Net) → Sized net → Kept (kindRule (net .kinds)) → Kept (wireRule net) → Sound net
+pub sound : (net : Net) → Sized net → Kept (kindRule (net .kinds)) → Kept (wireRule net) → Sound net
 unfolding wireTests
 sound net f k w =
     record {
@@ -37,7 +30,7 @@ sound net f k w =
       drain-is = λ t l. ltb-true (at (net .drains) t) (nodes net) (not-false _ (any-none (wireTests net t) (w t l) 3));
     }
 
-fit : (net : Net) (s w : List ℕ) → any (stepSizes net s w) ≡ false → Kept (kindRule (net .kinds)) → Kept (wireRule net) → Kept (stateRule s) → Fit net s w
+pub fit : (net : Net) (s w : List ℕ) → any (stepSizes net s w) ≡ false → Kept (kindRule (net .kinds)) → Kept (wireRule net) → Kept (stateRule s) → Fit net s w
 fit net s w e k d h =
     let f = step-sized net s w e in
     record { sound = sound net (f .0) k d; states-level = f .1; state-is = λ v l. ltb-false highestState (at s v) (h v (omega arith)); room = f .2 }
@@ -67,3 +60,42 @@ unfolding ternaryRules
 ternary-accepted net s ch w e =
     let c = clean (ternaryRules net s ch w) e in
     run-accepted net s ch w (c .0 0 (omega arith)) (c .1)
+
+-- an accepted network is one that a step asks for; so it stays under other states, and in a work area of the same length
+pub checked : {net : Net} {s w : List ℕ} → Fit net s w → (room : ℕ) → room ≡ length w → Checked net s room
+checked f room e =
+    let sized = f .sound .sized in
+    record {
+      states = f .states-level;
+      gates = sized .level .gates-level;
+      sources = sized .level .sources-level;
+      drains = sized .level .drains-level;
+      wired = λ t l. record { gate = f .sound .gate-is t l; source = f .sound .source-is t l; drain = f .sound .drain-is t l };
+      kinds = f .sound .kind-is;
+      few-nodes = sized .few-nodes;
+      few-transistors = sized .few-transistors;
+      fits = rw e (f .room);
+    }
+
+pub checked-with : {net : Net} {s s′ : List ℕ} {room room′ : ℕ} → Checked net s room → length s′ ≡ length s → room′ ≡ room → Checked net s′ room′
+checked-with c e r = record {
+  states = e ∙ c .states;
+  gates = c .gates;
+  sources = c .sources;
+  drains = c .drains;
+  wired = c .wired;
+  kinds = c .kinds;
+  few-nodes = c .few-nodes;
+  few-transistors = c .few-transistors;
+  fits = rw r (c .fits);
+}
+
+-- accepted changes are ones that can be entered
+pub named : {n : ℕ} {input : ℕ → Bool} {ch : Changes} → SizedChanges ch → Enterable n input ch → Named ch n
+named f e = record { lengths = f .values-level; below = e .below }
+
+pub named-of : {ps vs : List ℕ} {n n′ : ℕ} {input : ℕ → Bool} → length vs ≡ length ps → Enterable n input (changesOf ps vs) → n′ ≡ n → Named (changesOf ps vs) n′
+named-of q E e = record { lengths = q; below = λ i l. rw e (E .below i l) }
+
+pub named-at : {ch : Changes} {n n′ : ℕ} → Named ch n → n′ ≡ n → Named ch n′
+named-at N e = rw e N

@@ -14,11 +14,8 @@ use Rattle.model.specs.Places.{tab, some, at}
 use Rattle.model.specs.Run.{Changes, put, changed, raised, lowered, changesOf}
 use Rattle.laws.proofs.Places.{length-tab, getD-tab, some-at, some-of}
 use Rattle.laws.proofs.Changes.{length-put, put-unnamed, put-named}
-use Rattle.stepper.proofs.Stores.{Stored, here, else, stored}
-use Rattle.runs.specs.Runs.{Named, Once}
-
-pub named-at : {ch : Changes} {n n′ : ℕ} → Named ch n → n′ ≡ n → Named ch n′
-named-at N e = rw e N
+use Rattle.basis.specs.Sound.{Named, Once}
+use Rattle.basis.proofs.Cells.{Stored, here, else, stored}
 
 put-last : (s ps vs : List ℕ) (p v : ℕ) → length vs ≡ length ps → put s (ps ++ (p ∷ [])) (vs ++ (v ∷ [])) ≡ set (put s ps vs) p v
 put-last s [] [] p v e = refl

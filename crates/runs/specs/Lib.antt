@@ -1,2 +1,0 @@
--- What the loops over steps are asked for, and what they leave.
-pub mod Runs

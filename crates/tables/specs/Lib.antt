@@ -1,2 +1,0 @@
--- What is known of what is lent once it is accepted.
-pub mod Lent
