@@ -1,24 +1,12 @@
 // The door to C: the five entries under C names, each with its four numbers written through `answer`. include/twistdory.h is its manual.
 // A slice passes as a pointer and a length in elements.
-use model::Answer;
+use answers::row_of;
 ghost use mathlib.Core.Path.{_≡_};
 ghost use mathlib.Core.List.{[]};
 ghost use Rattle.model.specs.Lent.{lent, left, lentNet, lentChanges};
 ghost use Rattle.model.specs.Answer.{row};
 ghost use Rattle.model.specs.Entries.{checkAnswer, resetOutcome, stepOutcome, unitOutcome, ternaryOutcome};
 ghost use Rattle.door.specs.Told.{Told};
-
-// An answer's number, place, first count and second count.
-fn row_of(a: Answer) -> [u32; 4]
-    ensures { λ r. ⌜ r ≡ row a ⌝ }
-{
-    [
-        model::number_of(a),
-        model::place_of(a),
-        model::first_count_of(a),
-        model::second_count_of(a),
-    ]
-}
 
 #[no_mangle]
 pub extern "C" fn twistdory_check(

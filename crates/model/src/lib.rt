@@ -2,7 +2,6 @@
 // runs are in specs/; what is proved of them is the crate laws.
 ghost use mathlib.Core.Path.{_≡_};
 ghost use Rattle.model.specs.Net.{inputKind};
-ghost use Rattle.model.specs.Answer.{number, place, firstCount, secondCount};
 
 // The bounds on what is lent; Bounds.antt has them for the definitions, and the contracts hold the two together.
 pub const MOST_NODES: usize = 4096;
@@ -54,78 +53,4 @@ pub enum Answer {
 pub enum Verdict {
     Accepted,
     Refused(Answer),
-}
-
-// The answer's number in the table of answers.
-pub fn number_of(a: Answer) -> u32
-    ensures { λ r. ⌜ r ≡ number a ⌝ }
-{
-    match a {
-        Answer::Done {
-            first: _,
-            second: _,
-        } => 0,
-        Answer::Size => 1,
-        Answer::Limit => 2,
-        Answer::Kind(_) => 3,
-        Answer::Wire(_) => 4,
-        Answer::State(_) => 5,
-        Answer::Change(_) => 6,
-        Answer::Start => 7,
-        Answer::Oscillates(_) => 8,
-    }
-}
-
-// The node, transistor or entry that a refusal is about, else 0.
-pub fn place_of(a: Answer) -> u32
-    ensures { λ r. ⌜ r ≡ place a ⌝ }
-{
-    match a {
-        Answer::Kind(p) => p,
-        Answer::Wire(p) => p,
-        Answer::State(p) => p,
-        Answer::Change(p) => p,
-        Answer::Done {
-            first: _,
-            second: _,
-        } => 0,
-        Answer::Size => 0,
-        Answer::Limit => 0,
-        Answer::Start => 0,
-        Answer::Oscillates(_) => 0,
-    }
-}
-
-// Its first count.
-pub fn first_count_of(a: Answer) -> u32
-    ensures { λ r. ⌜ r ≡ firstCount a ⌝ }
-{
-    match a {
-        Answer::Done { first, second: _ } => first,
-        Answer::Oscillates(limit) => limit,
-        Answer::Size => 0,
-        Answer::Limit => 0,
-        Answer::Kind(_) => 0,
-        Answer::Wire(_) => 0,
-        Answer::State(_) => 0,
-        Answer::Change(_) => 0,
-        Answer::Start => 0,
-    }
-}
-
-// Its second count.
-pub fn second_count_of(a: Answer) -> u32
-    ensures { λ r. ⌜ r ≡ secondCount a ⌝ }
-{
-    match a {
-        Answer::Done { first: _, second } => second,
-        Answer::Size => 0,
-        Answer::Limit => 0,
-        Answer::Kind(_) => 0,
-        Answer::Wire(_) => 0,
-        Answer::State(_) => 0,
-        Answer::Change(_) => 0,
-        Answer::Start => 0,
-        Answer::Oscillates(_) => 0,
-    }
 }

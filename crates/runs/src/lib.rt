@@ -1,17 +1,14 @@
 // Loops over steps: changes entered, steps until the state is settled, and from these the unit run and the ternary run, on tables
 // that were checked.
 ghost use mathlib.Core.Path.{_≡_};
-ghost use mathlib.Core.Bool.{cond};
 ghost use Prim.Native.Nat.{_≤_};
 ghost use lib.ListN.{length};
-ghost use lib.Dec.{eqb};
 ghost use Rattle.model.specs.Bounds.{highestLimit};
 ghost use Rattle.model.specs.Net.{isInput, step};
-ghost use Rattle.model.specs.Run.{put, raised, settle, limitOf, unitSteps};
+ghost use Rattle.model.specs.Run.{settle, limitOf, unitSteps};
 ghost use Rattle.model.specs.Lent.{netNow, changesNow, lent, left, lentNet, lentChanges};
-ghost use Rattle.model.specs.Entries.{cleared};
 ghost use Rattle.model.specs.Demands.{Enterable};
-ghost use Rattle.basis.specs.Sound.{Checked, Named, Once};
+ghost use Rattle.basis.specs.Sound.{Checked, Named};
 ghost use Rattle.basis.specs.Steps.{ruleOne, Stepped, Told, Ended, Halved};
 
 // How steps ended: settled or not, and after how many.
@@ -24,50 +21,6 @@ pub struct Ran {
 pub struct Halves {
     pub first: u32,
     pub second: u32,
-}
-
-// The named nodes take their new states.
-pub fn enter(states: &mut [u8], nodes: &[u16], news: &[u8])
-    requires { ⌜ Named (changesNow nodes news) (length (now states)) ⌝ }
-    ensures { λ r. ⌜ left states ≡ put (lent states) (lent nodes) (lent news) ⌝ }
-{
-    let mut e = 0;
-    while e < nodes.len() {
-        let v = nodes[e] as usize;
-        states[v] = news[e];
-        e += 1;
-    }
-}
-
-// A state that is to change is X in between.
-fn raised_state(old: u8, new: u8) -> u8
-    ensures { λ r. ⌜ r ≡ cond (eqb old new) old 2 ⌝ }
-{
-    if old == new {
-        return old;
-    }
-    2
-}
-
-// The named nodes whose new state differs from their present one take X.
-pub fn raise_changed(states: &mut [u8], nodes: &[u16], news: &[u8])
-    requires { ⌜ Named (changesNow nodes news) (length (now states)) × Once (changesNow nodes news) ⌝ }
-    ensures { λ r. ⌜ left states ≡ raised (lent states) (put (lent states) (lent nodes) (lent news)) ⌝ }
-{
-    let mut e = 0;
-    while e < nodes.len() {
-        let v = nodes[e] as usize;
-        states[v] = raised_state(states[v], news[e]);
-        e += 1;
-    }
-}
-
-// The first `used` work cells become 0.
-pub fn clear(work: &mut [u16], used: usize)
-    requires { ⌜ used ≤ length (now work) ⌝ }
-    ensures { λ r. ⌜ left work ≡ cleared used (lent work) ⌝ }
-{
-    stepper::cells::zero(work, 0, used);
 }
 
 // One step; how many nodes differ after it.
@@ -85,8 +38,8 @@ pub fn step_once(
         ⌜ Stepped (ruleOne net) (lent states) (lent work) r (left states) (left work) ⌝ }
 {
     stepper::evaluate(kinds, states, types, gates, sources, drains, work);
-    let differ = stepper::differing(states, work);
-    stepper::store(states, work);
+    let differ = cells::differing(states, work);
+    cells::store(states, work);
     differ
 }
 
@@ -105,7 +58,7 @@ pub fn settled(
         ⌜ Told (ruleOne net) (lent states) (lent work) r (left work) ⌝ }
 {
     stepper::evaluate(kinds, states, types, gates, sources, drains, work);
-    stepper::differing(states, work) == 0
+    cells::differing(states, work) == 0
 }
 
 // Steps until settled, at most `limit` of them. The step that alters nothing is not counted.
@@ -128,13 +81,13 @@ pub fn settle(
     let mut count = 0;
     loop {
         stepper::evaluate(kinds, states, types, gates, sources, drains, work);
-        if stepper::differing(states, work) == 0 {
+        if cells::differing(states, work) == 0 {
             return Ran { ends: true, count };
         }
         if count == limit {
             return Ran { ends: false, count };
         }
-        stepper::store(states, work);
+        cells::store(states, work);
         count += 1;
     }
 }
@@ -169,7 +122,7 @@ pub fn unit_core(
         let run = unitSteps (step net) (lent states) (lentChanges nodes news) limit in
         ⌜ Ended (ruleOne net) run (lent work) (r .ends) (r .count) (left states) (left work) ⌝ }
 {
-    enter(states, nodes, news);
+    cells::enter(states, nodes, news);
     settle(
         kinds,
         states,
@@ -203,9 +156,9 @@ pub fn ternary_core(
         ⌜ Halved (ruleOne net) (lent states) changes (lent work) (r .first) (r .second) (left states) (left work) ⌝ }
 {
     let n = kinds.len() as u32;
-    raise_changed(states, nodes, news);
+    cells::raise_changed(states, nodes, news);
     let up = settle(kinds, states, types, gates, sources, drains, work, n);
-    enter(states, nodes, news);
+    cells::enter(states, nodes, news);
     let down = settle(kinds, states, types, gates, sources, drains, work, n);
     Halves {
         first: up.count,

@@ -13,7 +13,7 @@ use Rattle.model.specs.Tables.{Came, began, over, Least, StepTables}
 use Rattle.model.specs.RuleOne.{frame}
 use Rattle.laws.proofs.RuleOne.{tables-step}
 use Rattle.basis.specs.Steps.{ruleOne, Evaluated}
-use Rattle.stepper.specs.Relax.{cell, flow, Relaxed}
+use Rattle.strengths.specs.Relax.{cell, flow, Relaxed}
 use Rattle.basis.specs.Cells.{Written, Bytes}
 use Rattle.stepper.specs.Start.{own, begins, Definite, Against, next}
 

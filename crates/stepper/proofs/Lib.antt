@@ -1,3 +1,2 @@
--- What lies behind the functions of a step.
-pub mod Lifts
+-- From what the parts of a step leave to its three tables.
 pub mod Least

@@ -1,3 +1,2 @@
 -- What the functions within a step promise one another.
-pub mod Relax
 pub mod Start

@@ -11,7 +11,7 @@ use Rattle.model.specs.Rules.{cells}
 use Rattle.model.specs.Ways.{choose}
 use Rattle.model.specs.Tables.{Least, starts, byTables}
 use Rattle.model.specs.RuleOne.{frame}
-use Rattle.stepper.specs.Relax.{cell}
+use Rattle.strengths.specs.Relax.{cell}
 
 -- a node's strength as a source
 abbrev pub own : List ℕ → ℕ → ℕ

@@ -20,9 +20,9 @@ pub fn definite(
     ensures { λ r. ⌜ Definite (lentNet kinds types gates sources drains) (lent states) (lent work) (left work) ⌝ }
 {
     let n = kinds.len();
-    crate::cells::zero(work, 3 * n, n);
+    cells::zero(work, 3 * n, n);
     crate::start::start_definite(kinds, work);
-    crate::relax::relax(
+    strengths::relax(
         kinds,
         states,
         types,
@@ -56,7 +56,7 @@ pub fn possible(
         ⌜ Against net (lent states) table b (lent work) (left work) ⌝ }
 {
     crate::start::start_against(kinds, states, work, table, b);
-    crate::relax::relax(
+    strengths::relax(
         kinds,
         states,
         types,

@@ -1,5 +1,4 @@
--- What is proved of the entries: what a verdict gives, what a run that was accepted leaves, and that each contract admits one outcome.
+-- What is proved of the entries: what a verdict gives, that each contract admits one outcome, and the demands.
 mod Given
-mod Running
 pub mod Determined
 pub mod Promises

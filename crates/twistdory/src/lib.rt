@@ -1,13 +1,9 @@
 // The simulator's entries. Each checks all that it is lent, answers with one of nine kinds of answer, and says in its contract what it
 // answers and what it leaves in each buffer that it may write, on every input.
-mod accepted;
-
 use model::Answer;
 use model::Verdict;
 ghost use mathlib.Core.Path.{_≡_};
 ghost use mathlib.Core.List.{[]};
-ghost use lib.ListN.{length};
-ghost use Rattle.model.specs.Places.{tab};
 ghost use Rattle.model.specs.Lent.{lent, left, lentNet, lentChanges};
 ghost use Rattle.model.specs.Entries.{checkAnswer, resetOutcome, stepOutcome, unitOutcome, ternaryOutcome, Leaves};
 
@@ -31,17 +27,6 @@ pub fn check(kinds: &[u8], types: &[u8], gates: &[u16], sources: &[u16], drains:
     }
 }
 
-// Every state becomes X.
-fn fill_x(states: &mut [u8])
-    ensures { λ _. ⌜ left states ≡ tab (length (lent states)) (λ v. 2) ⌝ }
-{
-    let mut v = 0;
-    while v < states.len() {
-        states[v] = 2;
-        v += 1;
-    }
-}
-
 // Resets the states of a network: every state becomes X, whatever it was.
 pub fn reset(kinds: &[u8], states: &mut [u8]) -> Answer
     ensures { λ r. ⌜ Leaves (resetOutcome (lent kinds) (lent states)) r (left states) [] ⌝ }
@@ -49,7 +34,7 @@ pub fn reset(kinds: &[u8], states: &mut [u8]) -> Answer
     match judges::judge_reset(kinds, states) {
         Verdict::Refused(a) => a,
         Verdict::Accepted => {
-            fill_x(states);
+            cells::fill_x(states);
             done()
         }
     }

@@ -1,0 +1,2 @@
+-- What an entry leaves that was accepted.
+mod Running

@@ -1,0 +1,116 @@
+// Single tables, written or compared place by place: work cells at 0, states at X, changes entered, an evaluated step taking effect.
+ghost use Prim.Native.Nat.{_+_, _≤_};
+ghost use mathlib.Core.Path.{_≡_};
+ghost use mathlib.Core.Bool.{not, cond};
+ghost use lib.ListN.{length};
+ghost use lib.Dec.{eqb};
+ghost use Rattle.model.specs.Places.{tab, at};
+ghost use Rattle.model.specs.Bounds.{mostNodes};
+ghost use Rattle.model.specs.Run.{put, raised};
+ghost use Rattle.model.specs.Lent.{changesNow, lent, left};
+ghost use Rattle.model.specs.Entries.{altered, cleared};
+ghost use Rattle.basis.specs.Sound.{Named, Once};
+ghost use Rattle.basis.specs.Cells.{Written, Bytes};
+
+// Zeros in work[first..first + count].
+pub fn zero(work: &mut [u16], first: usize, count: usize)
+    requires { ⌜ first + count ≤ length (now work) ⌝ }
+    ensures { λ r. ⌜ Written (λ k. 0) (lent work) first count (left work) ⌝ }
+{
+    let mut k = 0;
+    while k < count {
+        work[first + k] = 0;
+        k += 1;
+    }
+}
+
+// The first `used` work cells become 0.
+pub fn clear(work: &mut [u16], used: usize)
+    requires { ⌜ used ≤ length (now work) ⌝ }
+    ensures { λ r. ⌜ left work ≡ cleared used (lent work) ⌝ }
+{
+    zero(work, 0, used);
+}
+
+// Every state becomes X.
+pub fn fill_x(states: &mut [u8])
+    ensures { λ _. ⌜ left states ≡ tab (length (lent states)) (λ v. 2) ⌝ }
+{
+    let mut i = 0;
+    while i < states.len() {
+        states[i] = 2;
+        i += 1;
+    }
+}
+
+// The named nodes take their new states.
+pub fn enter(states: &mut [u8], nodes: &[u16], news: &[u8])
+    requires { ⌜ Named (changesNow nodes news) (length (now states)) ⌝ }
+    ensures { λ r. ⌜ left states ≡ put (lent states) (lent nodes) (lent news) ⌝ }
+{
+    let mut e = 0;
+    while e < nodes.len() {
+        let v = nodes[e] as usize;
+        states[v] = news[e];
+        e += 1;
+    }
+}
+
+// A state that is to change is X in between.
+fn raised_state(old: u8, new: u8) -> u8
+    ensures { λ r. ⌜ r ≡ cond (eqb old new) old 2 ⌝ }
+{
+    if old == new {
+        return old;
+    }
+    2
+}
+
+// The named nodes whose new state differs from their present one take X.
+pub fn raise_changed(states: &mut [u8], nodes: &[u16], news: &[u8])
+    requires { ⌜ Named (changesNow nodes news) (length (now states)) × Once (changesNow nodes news) ⌝ }
+    ensures { λ r. ⌜ left states ≡ raised (lent states) (put (lent states) (lent nodes) (lent news)) ⌝ }
+{
+    let mut e = 0;
+    while e < nodes.len() {
+        let v = nodes[e] as usize;
+        states[v] = raised_state(states[v], news[e]);
+        e += 1;
+    }
+}
+
+// 1 where a node's next state differs from its state, else 0.
+fn differs(next: u16, state: u8) -> u32
+    ensures { λ r. ⌜ r ≡ cond (not (eqb next state)) 1 0 ⌝ }
+{
+    if next == state as u16 {
+        return 0;
+    }
+    1
+}
+
+// How many nodes the evaluated step alters.
+pub fn differing(states: &[u8], work: &[u16]) -> u32
+    requires { ⌜ (length (now states) ≤ length (now work)) × (length (now states) ≤ mostNodes) ⌝ }
+    ensures { λ r. ⌜ r ≡ altered (lent states) (lent work) ⌝ }
+{
+    let mut k = 0;
+    let mut node = 0;
+    while node < states.len() {
+        k += differs(work[node], states[node]);
+        node += 1;
+    }
+    k
+}
+
+// The evaluated step takes effect.
+pub fn store(states: &mut [u8], work: &[u16])
+    requires { ⌜ (length (now states) ≤ length (now work)) × Bytes (length (now states)) (now work) ⌝ }
+    ensures { λ r. ⌜ left states ≡ tab (length (lent states)) (at (lent work)) ⌝ }
+{
+    let mut v = 0;
+    while v < states.len() {
+        states[v] = work[v] as u8;
+        v += 1;
+    }
+}

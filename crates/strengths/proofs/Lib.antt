@@ -1,0 +1,2 @@
+-- Lifts along transistors, and that they come to an end.
+pub mod Lifts
