@@ -19,8 +19,9 @@ NETWORKS ?= 1000000
 
 export RATTLE_HOME
 
-DOOR_CFLAGS = -std=c11 -O2 -Wall -Wextra -Werror -Iinclude
-DOOR_HEADERS = $(wildcard include/*.h outside/*.h perf/*.h)
+DOOR_INCLUDES = -Iinclude -Icompare
+DOOR_CFLAGS = -std=c11 -O2 -Wall -Wextra -Werror $(DOOR_INCLUDES)
+DOOR_HEADERS = $(wildcard include/*.h compare/*.h outside/*.h)
 DOOR_CC = cc=$$(sh mk/toolchain.sh cc)
 DOOR_RUN = run=$$(sh mk/toolchain.sh run)
 
@@ -39,19 +40,22 @@ build/libtwistdory.a: $(DOOR_CRATES)
 	cp target/staticlib/lib$(LIB_CRATE).a $@
 
 # A stand-in over the plain C simulator: it tests the outside check, and nothing else uses it.
-build/libstandin.a: build/outside/standin.o build/perf/plain.o
+build/libstandin.a: build/outside/standin.o build/compare/plain.o
 	@rm -f $@ && ar=$$(sh mk/toolchain.sh ar) && $$ar rcs $@ $^
 
 # ---- programs, for each library in a folder of its own
+
+# The programs to compare with never read the library's header.
+build/compare/%.o: DOOR_INCLUDES = -Icompare
 
 build/%.o: %.c $(DOOR_HEADERS)
 	@mkdir -p $(@D)
 	@$(DOOR_CC) && $$cc $(DOOR_CFLAGS) -c -o $@ $<
 
-DOOR_PARTS = build/outside/door.o build/outside/lend.o build/outside/network.o build/outside/brute.o
+DOOR_PARTS = build/outside/door.o build/outside/lend.o build/compare/network.o build/compare/brute.o
 HOST_PARTS = build/outside/host.o build/outside/numbers.o build/outside/check_bench_set.o build/outside/check_refusals.o \
 	build/outside/check_full_size.o build/outside/check_small.o build/outside/check_random.o $(DOOR_PARTS)
-BENCH_SOURCES = perf/bench.c perf/shapes.c perf/plain.c
+BENCH_SOURCES = perf/bench.c compare/shapes.c compare/plain.c
 
 build/%/host: $(HOST_PARTS) build/%.a
 	@mkdir -p $(@D)
@@ -61,10 +65,10 @@ build/%/arrivals: build/outside/arrivals.o $(DOOR_PARTS) build/%.a
 	@mkdir -p $(@D)
 	@$(DOOR_CC) && $$cc -o $@ $^
 
-build/plain-check: build/perf/plain_check.o build/perf/plain.o build/outside/network.o build/outside/brute.o
+build/plain-check: build/compare/plain_check.o build/compare/plain.o build/compare/network.o build/compare/brute.o
 	@$(DOOR_CC) && $$cc -o $@ $^
 
-build/verilog-writer: build/perf/verilog.o build/perf/shapes.o build/perf/plain.o
+build/verilog-writer: build/perf/verilog.o build/compare/shapes.o build/compare/plain.o
 	@$(DOOR_CC) && $$cc -o $@ $^
 
 # At -O3, the level at which the library is compiled.

@@ -33,6 +33,13 @@ void door_open(void);
    within it, and the options that replay it. The strings are kept, not copied. */
 void door_now_checking(const char *check, uint64_t number, const char *replay);
 
+/* What a call must answer and leave. */
+struct outcome {
+    uint32_t answer[4];
+    const uint8_t *states;  /* as many as the call lends */
+    const uint16_t *work;   /* as many as the call lends */
+};
+
 /* Calls the library and compares with the outcome wanted. True if all is the same. */
 bool door_try(const struct call *call, const struct outcome *wanted);
 

@@ -1,13 +1,13 @@
 /*
    A stand-in for the library: the five calls of the header over the plain C
-   simulator of perf/, with refusals and work area of its own. It tests the
+   simulator of compare/, with refusals and work area of its own. It tests the
    outside check itself: sound, it must pass, and with a fault planted in it, it
    must be caught. Nothing else uses it.
 */
 #include <stdbool.h>
 #include <string.h>
 
-#include "../perf/plain.h"
+#include "plain.h"
 #include "twistdory.h"
 
 struct transistors {

@@ -1,9 +1,9 @@
 /*
    The benchmark: the library beside a plain C simulator by Bryant's linear
-   method (plain.c), on real shapes (shapes.c), in one run. For each shape: the
-   time of one step, of an input change by a unit run and by a ternary run, and
-   the ratio; then how a step's cost grows with the network. What the two answer
-   is compared: they must agree.
+   method (compare/plain.c), on real shapes (compare/shapes.c), in one run. For
+   each shape: the time of one step, of an input change by a unit run and by a
+   ternary run, and the ratio; then how a step's cost grows with the network.
+   What the two answer is compared: they must agree.
 
        bench [--seed S] [--emulated]
 

@@ -11,7 +11,7 @@ cd "$(dirname "$0")/../.." || exit 2
 library=$1 quick=${2:-}
 here=outside/faults
 cc=$(sh mk/toolchain.sh cc) && run=$(sh mk/toolchain.sh run) || exit 2
-flags='-std=c11 -O2 -Wall -Wextra -Werror -Iinclude -Iperf -Ioutside'
+flags='-std=c11 -O2 -Wall -Wextra -Werror -Iinclude -Icompare'
 room=$(mktemp -d) || exit 2
 trap 'rm -rf "$room"' EXIT
 
@@ -20,18 +20,20 @@ build() { # shellcheck disable=SC2086
     $cc $flags -c -o "$room/$1.o" "$2"
 }
 
-host='host door lend network brute check_bench_set check_refusals check_full_size check_small check_random'
-for part in $host arrivals standin; do build "$part" "outside/$part.c" || exit 2; done
-build plain perf/plain.c || exit 2
+door='door lend'
+checks='check_bench_set check_refusals check_full_size check_small check_random'
+compare='network brute'
+for part in host $checks arrivals $door standin; do build "$part" "outside/$part.c" || exit 2; done
+for part in $compare plain; do build "$part" "compare/$part.c" || exit 2; done
 build shim $here/shim.c || exit 2
 
 objects() { for part in "$@"; do printf '%s/%s.o ' "$room" "$part"; done; }
 
 # link the two programs with or without the shim, over the stand-in or the library
 link() { # WITH...
-    # shellcheck disable=SC2046
-    $cc -o "$room/host" $(objects $host) "$@" \
-        && $cc -o "$room/arrivals" $(objects arrivals door lend network brute) "$@"
+    # shellcheck disable=SC2046,SC2086
+    $cc -o "$room/host" $(objects host $checks $door $compare) "$@" \
+        && $cc -o "$room/arrivals" $(objects arrivals $door $compare) "$@"
 }
 
 # says which checks end with status 1
@@ -67,7 +69,6 @@ while IFS= read -r name; do
         echo "NOT PLANTED: $name (the edit alters nothing in $file)"
         continue
     fi
-    sed -i "s|\"../perf/plain.h\"|\"plain.h\"|" "$room/fault.c"
     part=$(basename "$file" .c)
     cp "$room/$part.o" "$room/sound.o"
     # shellcheck disable=SC2086

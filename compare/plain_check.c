@@ -6,8 +6,8 @@
 #include <stdio.h>
 #include <string.h>
 
-#include "../outside/brute.h"
-#include "../outside/network.h"
+#include "brute.h"
+#include "network.h"
 #include "plain.h"
 
 enum { NETWORKS = 30000, MOST_NODES = 8, MOST_TRANSISTORS = 10, MOST_STEPS = 100 };

@@ -5,7 +5,7 @@
 #include <stdio.h>
 #include <stdlib.h>
 
-#include "../outside/dice.h"
+#include "dice.h"
 
 enum { NORMAL, PULLUP, INPUT };
 enum { LOW, HIGH, UNKNOWN };

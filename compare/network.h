@@ -1,9 +1,9 @@
 /*
-   Networks to lend: room for the tables of the longest calls of the check, and
-   small random networks.
+   Networks to lend: room for the tables of the longest calls of the outside
+   check, and small random networks.
 */
-#ifndef OUTSIDE_NETWORK_H
-#define OUTSIDE_NETWORK_H
+#ifndef COMPARE_NETWORK_H
+#define COMPARE_NETWORK_H
 
 #include "call.h"
 #include "dice.h"

@@ -3,8 +3,8 @@
    bounds of the library, each with states to start from, and with one input to
    change.
 */
-#ifndef PERF_SHAPES_H
-#define PERF_SHAPES_H
+#ifndef COMPARE_SHAPES_H
+#define COMPARE_SHAPES_H
 
 #include <stddef.h>
 #include <stdint.h>

@@ -3,8 +3,8 @@
    dice, thrown from the seed and the network's number, so that any one of them
    can be replayed alone.
 */
-#ifndef OUTSIDE_DICE_H
-#define OUTSIDE_DICE_H
+#ifndef COMPARE_DICE_H
+#define COMPARE_DICE_H
 
 #include <stdint.h>
 

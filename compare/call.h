@@ -1,9 +1,10 @@
 /*
    One call of the library as data: which entry, and the tables that it lends.
-   The brute-force program answers such a call, and the door makes it.
+   The brute-force program answers such a call, and the outside check's door
+   makes it.
 */
-#ifndef OUTSIDE_CALL_H
-#define OUTSIDE_CALL_H
+#ifndef COMPARE_CALL_H
+#define COMPARE_CALL_H
 
 #include <stddef.h>
 #include <stdint.h>
@@ -29,13 +30,6 @@ struct call {
     struct bytes change_states;
     uint32_t limit;
     struct cells work;
-};
-
-/* What a call must answer and leave. */
-struct outcome {
-    uint32_t answer[4];
-    const uint8_t *states;  /* as many as the call lends */
-    const uint16_t *work;   /* as many as the call lends */
 };
 
 static inline int entry_takes_states(enum entry entry)

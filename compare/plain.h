@@ -3,8 +3,8 @@
    spreads from the strongest sources first and looks at each end of a
    transistor a fixed number of times a step. It trusts its tables.
 */
-#ifndef PERF_PLAIN_H
-#define PERF_PLAIN_H
+#ifndef COMPARE_PLAIN_H
+#define COMPARE_PLAIN_H
 
 #include <stdbool.h>
 #include <stddef.h>

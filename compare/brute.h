@@ -3,8 +3,8 @@
    of open and closed for the unknown transistors and joins nodes into sets
    for each of them. It shares no code and no idea with the library.
 */
-#ifndef OUTSIDE_BRUTE_H
-#define OUTSIDE_BRUTE_H
+#ifndef COMPARE_BRUTE_H
+#define COMPARE_BRUTE_H
 
 #include "call.h"
 
