@@ -5,7 +5,7 @@
 .PHONY: run test toolchain layout choices proofs
 
 run: toolchain
-	@mkdir -p build && { rt check cases >build/run.log 2>&1 || { tail -n 20 build/run.log; exit 1; }; }
+	@sh mk/prove.sh cases
 	@sh mk/run.sh cases
 
 # From nothing: layout, the outside program in Python, all proofs and programs, then the C library made of what was proved.

@@ -22,10 +22,10 @@ use Rattle.basis.specs.Steps.{Stepping, ruleOne, Evaluated, Ended}
 use Rattle.basis.proofs.Altered.{same-count}
 
 -- a step leaves as many states as there are nodes
-abbrev pub Sized : Stepping → Type 0
-Sized by = (s : List ℕ) → length (by .next s) ≡ by .size
+abbrev pub StepSized : Stepping → Type 0
+StepSized by = (s : List ℕ) → length (by .next s) ≡ by .size
 
-pub one-sized : (net : Net) → Sized (ruleOne net)
+pub one-sized : (net : Net) → StepSized (ruleOne net)
 one-sized net = stepper net .sized
 
 module _ (f : List ℕ → List ℕ) where
@@ -65,7 +65,7 @@ module _ {by : Stepping} where
     unfolding altered
     evaluated-count = count-same (length s) _ _ (λ v l. ap (λ (x : ℕ). not (eqb x (at s v))) (E .next v (omega arith)))
 
-    module _ (sized : Sized by) where
+    module _ (sized : StepSized by) where
       pub evaluated-states : tab (length s) (at w′) ≡ by .next s
       evaluated-states =
           ext-getD 0 (tab (length s) (at w′)) (by .next s) (length-tab (length s) (at w′) ∙ long ∙ sym (sized s))

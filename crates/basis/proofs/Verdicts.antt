@@ -1,4 +1,4 @@
--- What a verdict gives an entry: the refusal's outcome, or that of acceptance. Assumes nothing.
+-- What a verdict gives an entry, the refusal's outcome or that of acceptance; and that an outcome admits one end. Assumes nothing.
 use Prim.Native.Nat.{ℕ}
 use mathlib.Core.Path.{_≡_, refl, ap, _∙_, sym}
 use mathlib.Core.List.{List}
@@ -17,6 +17,10 @@ module _ {A : Type 0} (rs : List Rule) (refuse : Answer → A) (accept : A) (v :
 
 pub leaves-at : {o p : Outcome} {a : Answer} {s w : List ℕ} → o ≡ p → Leaves o a s w → Leaves p a s w
 leaves-at e h = rw e at h
+
+-- an outcome is one answer, one list of states and one work area
+pub leaves-one : {o : Outcome} {a b : Answer} {s t w v : List ℕ} → Leaves o a s w → Leaves o b t v → (a ≡ b) × (s ≡ t) × (w ≡ v)
+leaves-one p q = (p .answers ∙ sym (q .answers), p .states-left ∙ sym (q .states-left), p .work-left ∙ sym (q .work-left))
 
 -- a refusal leaves states and work area as they came
 pub refused-leaves : (rs : List Rule) (s w : List ℕ) (accept : Outcome) (v : Verdict) → v ≡ judge rs → (a : Answer) → v ≡ Refused a → Leaves (judged rs (untouched s w) accept) a s w

@@ -6,8 +6,8 @@ ghost use lib.ListN.{length};
 ghost use lib.Dec.{eqb};
 ghost use Rattle.model.specs.Places.{tab, at};
 ghost use Rattle.model.specs.Bounds.{mostNodes};
-ghost use Rattle.model.specs.Run.{put, raised};
-ghost use Rattle.model.specs.Lent.{changesNow, lent, left};
+ghost use Rattle.model.specs.Run.{entered, raised};
+ghost use Rattle.model.specs.Lent.{changesNow, lent, left, lentChanges};
 ghost use Rattle.model.specs.Entries.{altered, cleared};
 ghost use Rattle.basis.specs.Sound.{Named, Once};
 ghost use Rattle.basis.specs.Cells.{Written, Bytes};
@@ -46,7 +46,7 @@ pub fn fill_x(states: &mut [u8])
 // The named nodes take their new states.
 pub fn enter(states: &mut [u8], nodes: &[u16], news: &[u8])
     requires { ⌜ Named (changesNow nodes news) (length (now states)) ⌝ }
-    ensures { λ r. ⌜ left states ≡ put (lent states) (lent nodes) (lent news) ⌝ }
+    ensures { λ r. ⌜ left states ≡ entered (lent states) (lentChanges nodes news) ⌝ }
 {
     let mut e = 0;
     while e < nodes.len() {
@@ -69,7 +69,7 @@ fn raised_state(old: u8, new: u8) -> u8
 // The named nodes whose new state differs from their present one take X.
 pub fn raise_changed(states: &mut [u8], nodes: &[u16], news: &[u8])
     requires { ⌜ Named (changesNow nodes news) (length (now states)) × Once (changesNow nodes news) ⌝ }
-    ensures { λ r. ⌜ left states ≡ raised (lent states) (put (lent states) (lent nodes) (lent news)) ⌝ }
+    ensures { λ r. ⌜ left states ≡ raised (lent states) (entered (lent states) (lentChanges nodes news)) ⌝ }
 {
     let mut e = 0;
     while e < nodes.len() {

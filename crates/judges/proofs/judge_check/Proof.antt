@@ -2,7 +2,7 @@
 use mathlib.Core.Path.{sym, _∙_}
 use mathlib.Core.List.{[], _∷_}
 use borrow.Author.Needs.{needs}
-use Rattle.model.specs.Net.{netOf}
+use Rattle.model.specs.Lent.{netNow}
 use Rattle.model.specs.Rules.{kindRule, wireRule, checkSizes, checkRules}
 use Rattle.basis.proofs.Fitting.{check-sized}
 use Rattle.basis.proofs.Judging.{size-broken, size-kept}
@@ -16,20 +16,20 @@ returns : tie.Need-returns
 unfolding checkRules
 returns c =
     let a = c .before .before .before .before .before .before .before .args in
-    let net = netOf (a .kinds .now) (a .types .now) (a .gates .now) (a .sources .now) (a .drains .now) in
+    let net = netNow (a .kinds) (a .types) (a .gates) (a .sources) (a .drains) in
     size-broken (checkSizes net) (kindRule (a .kinds .now) ∷ wireRule net ∷ []) _ (c .before .wrong-check-sizes .ensures) (c .if1 .taken)
 
 judge-tables-requires : tie.Need-judge-tables-requires
 judge-tables-requires c κs =
     let a = c .before .before .before .before .before .before .before .args in
-    let net = netOf (a .kinds .now) (a .types .now) (a .gates .now) (a .sources .now) (a .drains .now) in
+    let net = netNow (a .kinds) (a .types) (a .gates) (a .sources) (a .drains) in
     check-sized net (sym (c .before .wrong-check-sizes .ensures) ∙ c .if1 .left)
 
 returns-2 : tie.Need-returns-2
 unfolding checkRules
 returns-2 c =
     let a = c .before .before .before .before .before .before .before .before .args in
-    let net = netOf (a .kinds .now) (a .types .now) (a .gates .now) (a .sources .now) (a .drains .now) in
+    let net = netNow (a .kinds) (a .types) (a .gates) (a .sources) (a .drains) in
     size-kept (checkSizes net) (kindRule (a .kinds .now) ∷ wireRule net ∷ []) _ (c .before .before .wrong-check-sizes .ensures) _ (c .before .if1 .left) (c .judge-tables .ensures)
 
 pub judge-check-spec : {M : Type 1} → statement M

@@ -1,7 +1,7 @@
 -- `judge_contents` meets its contract: a refusal of the tables stands; else the search over the states decides. Assumes nothing.
 use mathlib.Core.List.{[], _∷_}
 use borrow.Author.Needs.{needs}
-use Rattle.model.specs.Net.{netOf}
+use Rattle.model.specs.Lent.{netNow}
 use Rattle.model.specs.Rules.{kindRule, wireRule, stateRule}
 use Rattle.basis.proofs.Judging.{refused-first, accepted-first, rule-broken, rule-kept}
 use Rattle.judges.proofs.judge_contents.Statement.{statement}
@@ -19,7 +19,7 @@ enum-told-2 c = search needs
 returns : tie.Need-returns
 returns c =
     let a = c .before .before .before .before .before .before .before .before .before .args in
-    let net = netOf (a .kinds .now) (a .types .now) (a .gates .now) (a .sources .now) (a .drains .now) in
+    let net = netNow (a .kinds) (a .types) (a .gates) (a .sources) (a .drains) in
     refused-first (kindRule (a .kinds .now) ∷ wireRule net ∷ []) (stateRule (a .states .now) ∷ []) _ (c .before .before .judge-tables .ensures) _ (c .enum-told2 .given .1)
 
 first-above-requires : tie.Need-first-above-requires
@@ -31,7 +31,7 @@ cast-t12 c = search needs
 returns-2 : tie.Need-returns-2
 returns-2 c =
     let a = c .before .before .before .before .before .before .before .before .before .before .before .args in
-    let net = netOf (a .kinds .now) (a .types .now) (a .gates .now) (a .sources .now) (a .drains .now) in
+    let net = netNow (a .kinds) (a .types) (a .gates) (a .sources) (a .drains) in
     let s = a .states .now in
     accepted-first (kindRule (a .kinds .now) ∷ wireRule net ∷ []) (stateRule s ∷ []) _ (c .before .before .before .before .judge-tables .ensures) _ (c .before .before .enum-told .given .1)
     (rule-broken (stateRule s) _ (c .before .first-above .ensures) (c .if1 .taken))
@@ -39,7 +39,7 @@ returns-2 c =
 returns-3 : tie.Need-returns-3
 returns-3 c =
     let a = c .before .before .before .before .before .before .before .before .before .before .before .args in
-    let net = netOf (a .kinds .now) (a .types .now) (a .gates .now) (a .sources .now) (a .drains .now) in
+    let net = netNow (a .kinds) (a .types) (a .gates) (a .sources) (a .drains) in
     let s = a .states .now in
     accepted-first (kindRule (a .kinds .now) ∷ wireRule net ∷ []) (stateRule s ∷ []) _ (c .before .before .before .before .judge-tables .ensures) _ (c .before .before .enum-told .given .1)
     (rule-kept (stateRule s) _ (c .before .first-above .ensures) (c .if1 .left))

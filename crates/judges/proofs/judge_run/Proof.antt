@@ -1,8 +1,7 @@
 -- `judge_run` meets its contract: a refusal of tables or states stands; else the search over the changes decides. Assumes nothing.
 use mathlib.Core.List.{[], _∷_}
 use borrow.Author.Needs.{needs}
-use Rattle.model.specs.Net.{netOf}
-use Rattle.model.specs.Run.{changesOf}
+use Rattle.model.specs.Lent.{netNow, changesNow}
 use Rattle.model.specs.Rules.{kindRule, wireRule, stateRule, changeRule, changeTests, runRules}
 use Rattle.basis.proofs.Judging.{refused-first, accepted-first, rule-broken, rule-kept}
 use Rattle.judges.proofs.judge_run.Statement.{statement}
@@ -21,8 +20,8 @@ returns : tie.Need-returns
 unfolding runRules
 returns c =
     let a = c .before .before .before .before .before .before .before .before .before .before .before .args in
-    let net = netOf (a .kinds .now) (a .types .now) (a .gates .now) (a .sources .now) (a .drains .now) in
-    let ch = changesOf (a .named .now) (a .values .now) in
+    let net = netNow (a .kinds) (a .types) (a .gates) (a .sources) (a .drains) in
+    let ch = changesNow (a .named) (a .values) in
     refused-first (kindRule (a .kinds .now) ∷ wireRule net ∷ stateRule (a .states .now) ∷ []) (changeRule net ch ∷ []) _ (c .before .before .judge-contents .ensures) _ (c .enum-told2 .given .1)
 
 first-wrong-change-requires : tie.Need-first-wrong-change-requires
@@ -35,8 +34,8 @@ returns-2 : tie.Need-returns-2
 unfolding runRules changeTests
 returns-2 c =
     let a = c .before .before .before .before .before .before .before .before .before .before .before .before .before .args in
-    let net = netOf (a .kinds .now) (a .types .now) (a .gates .now) (a .sources .now) (a .drains .now) in
-    let ch = changesOf (a .named .now) (a .values .now) in
+    let net = netNow (a .kinds) (a .types) (a .gates) (a .sources) (a .drains) in
+    let ch = changesNow (a .named) (a .values) in
     accepted-first (kindRule (a .kinds .now) ∷ wireRule net ∷ stateRule (a .states .now) ∷ []) (changeRule net ch ∷ []) _ (c .before .before .before .before .judge-contents .ensures) _ (c .before .before .enum-told .given .1)
     (rule-broken (changeRule net ch) _ (c .before .first-wrong-change .ensures) (c .if1 .taken))
 
@@ -44,8 +43,8 @@ returns-3 : tie.Need-returns-3
 unfolding runRules changeTests
 returns-3 c =
     let a = c .before .before .before .before .before .before .before .before .before .before .before .before .before .args in
-    let net = netOf (a .kinds .now) (a .types .now) (a .gates .now) (a .sources .now) (a .drains .now) in
-    let ch = changesOf (a .named .now) (a .values .now) in
+    let net = netNow (a .kinds) (a .types) (a .gates) (a .sources) (a .drains) in
+    let ch = changesNow (a .named) (a .values) in
     accepted-first (kindRule (a .kinds .now) ∷ wireRule net ∷ stateRule (a .states .now) ∷ []) (changeRule net ch ∷ []) _ (c .before .before .before .before .judge-contents .ensures) _ (c .before .before .enum-told .given .1)
     (rule-kept (changeRule net ch) _ (c .before .first-wrong-change .ensures) (c .if1 .left))
 

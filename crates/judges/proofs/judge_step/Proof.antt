@@ -2,7 +2,7 @@
 use mathlib.Core.Path.{sym, _∙_}
 use mathlib.Core.List.{[], _∷_}
 use borrow.Author.Needs.{needs}
-use Rattle.model.specs.Net.{netOf}
+use Rattle.model.specs.Lent.{netNow}
 use Rattle.model.specs.Rules.{kindRule, wireRule, stateRule, stepSizes, stepRules}
 use Rattle.basis.proofs.Fitting.{step-sized}
 use Rattle.basis.proofs.Judging.{size-broken, size-kept}
@@ -16,14 +16,14 @@ returns : tie.Need-returns
 unfolding stepRules
 returns c =
     let a = c .before .before .before .before .before .before .before .before .before .args in
-    let net = netOf (a .kinds .now) (a .types .now) (a .gates .now) (a .sources .now) (a .drains .now) in
+    let net = netNow (a .kinds) (a .types) (a .gates) (a .sources) (a .drains) in
     let s = a .states .now in
     size-broken (stepSizes net s (a .work .now)) (kindRule (a .kinds .now) ∷ wireRule net ∷ stateRule s ∷ []) _ (c .before .wrong-step-sizes .ensures) (c .if1 .taken)
 
 judge-contents-requires : tie.Need-judge-contents-requires
 judge-contents-requires c κs =
     let a = c .before .before .before .before .before .before .before .before .before .args in
-    let net = netOf (a .kinds .now) (a .types .now) (a .gates .now) (a .sources .now) (a .drains .now) in
+    let net = netNow (a .kinds) (a .types) (a .gates) (a .sources) (a .drains) in
     let f = step-sized net (a .states .now) (a .work .now) (sym (c .before .wrong-step-sizes .ensures) ∙ c .if1 .left) in
     (f .0, f .1)
 
@@ -31,7 +31,7 @@ returns-2 : tie.Need-returns-2
 unfolding stepRules
 returns-2 c =
     let a = c .before .before .before .before .before .before .before .before .before .before .args in
-    let net = netOf (a .kinds .now) (a .types .now) (a .gates .now) (a .sources .now) (a .drains .now) in
+    let net = netNow (a .kinds) (a .types) (a .gates) (a .sources) (a .drains) in
     let s = a .states .now in
     size-kept (stepSizes net s (a .work .now)) (kindRule (a .kinds .now) ∷ wireRule net ∷ stateRule s ∷ []) _ (c .before .before .wrong-step-sizes .ensures) _ (c .before .if1 .left) (c .judge-contents .ensures)
 

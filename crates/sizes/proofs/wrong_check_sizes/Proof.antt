@@ -1,6 +1,6 @@
 -- `wrong_check_sizes` meets its contract: the nodes' sizes, then the transistors'. Assumes nothing.
 use borrow.Author.Needs.{needs}
-use Rattle.model.specs.Net.{netOf}
+use Rattle.model.specs.Lent.{netNow}
 use Rattle.model.specs.Rules.{nodeSizes, wireSizes, checkSizes}
 use Rattle.basis.proofs.Fitting.{passed-first, failed-first}
 use Rattle.sizes.proofs.wrong_check_sizes.Statement.{statement}
@@ -13,7 +13,7 @@ returns : tie.Need-returns
 unfolding checkSizes
 returns c =
     let a = c .before .before .before .before .before .before .before .args in
-    let net = netOf (a .kinds .now) (a .types .now) (a .gates .now) (a .sources .now) (a .drains .now) in
+    let net = netNow (a .kinds) (a .types) (a .gates) (a .sources) (a .drains) in
     passed-first (nodeSizes (a .kinds .now)) (wireSizes net) _ (c .before .wrong-node-sizes .ensures) (c .if1 .taken)
 
 wrong-wire-sizes-requires : tie.Need-wrong-wire-sizes-requires
@@ -23,7 +23,7 @@ returns-2 : tie.Need-returns-2
 unfolding checkSizes
 returns-2 c =
     let a = c .before .before .before .before .before .before .before .before .args in
-    let net = netOf (a .kinds .now) (a .types .now) (a .gates .now) (a .sources .now) (a .drains .now) in
+    let net = netNow (a .kinds) (a .types) (a .gates) (a .sources) (a .drains) in
     failed-first (nodeSizes (a .kinds .now)) (wireSizes net) _ (c .before .before .wrong-node-sizes .ensures) _ (c .before .if1 .left) (c .wrong-wire-sizes .ensures)
 
 pub wrong-check-sizes-spec : {M : Type 1} → statement M

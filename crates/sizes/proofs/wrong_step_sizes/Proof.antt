@@ -4,6 +4,7 @@ use mathlib.Core.Bool.{or-false}
 use mathlib.Core.List.{[], _++_}
 use borrow.Author.Needs.{needs}
 use Rattle.model.specs.Net.{netOf}
+use Rattle.model.specs.Lent.{netNow}
 use Rattle.model.specs.Rules.{wireSizes, workSizes, resetSizes, stepSizes}
 use Rattle.basis.proofs.Fitting.{passed-first, failed-first, reset-sized, wires-sized}
 use Rattle.sizes.proofs.wrong_step_sizes.Statement.{statement}
@@ -16,7 +17,7 @@ returns : tie.Need-returns
 unfolding stepSizes resetSizes
 returns c =
     let a = c .before .before .before .before .before .before .before .before .before .args in
-    let net = netOf (a .kinds .now) (a .types .now) (a .gates .now) (a .sources .now) (a .drains .now) in
+    let net = netNow (a .kinds) (a .types) (a .gates) (a .sources) (a .drains) in
     passed-first (resetSizes (a .kinds .now) (a .states .now)) (wireSizes net ++ workSizes net (a .work .now)) _ (c .before .wrong-reset-sizes .ensures) (c .if1 .taken)
 
 wrong-wire-sizes-requires : tie.Need-wrong-wire-sizes-requires
@@ -26,7 +27,7 @@ returns-2 : tie.Need-returns-2
 unfolding stepSizes resetSizes
 returns-2 c =
     let a = c .before .before .before .before .before .before .before .before .before .before .before .args in
-    let net = netOf (a .kinds .now) (a .types .now) (a .gates .now) (a .sources .now) (a .drains .now) in
+    let net = netNow (a .kinds) (a .types) (a .gates) (a .sources) (a .drains) in
     failed-first (resetSizes (a .kinds .now) (a .states .now)) (wireSizes net ++ workSizes net (a .work .now)) _ (c .before .before .before .wrong-reset-sizes .ensures) _ (c .before .before .if1 .left)
     (passed-first (wireSizes net) (workSizes net (a .work .now)) _ (c .before .wrong-wire-sizes .ensures) (c .if2 .taken))
 
@@ -39,7 +40,7 @@ returns-3 : tie.Need-returns-3
 unfolding stepSizes resetSizes
 returns-3 c =
     let a = c .before .before .before .before .before .before .before .before .before .before .before .before .args in
-    let net = netOf (a .kinds .now) (a .types .now) (a .gates .now) (a .sources .now) (a .drains .now) in
+    let net = netNow (a .kinds) (a .types) (a .gates) (a .sources) (a .drains) in
     failed-first (resetSizes (a .kinds .now) (a .states .now)) (wireSizes net ++ workSizes net (a .work .now)) _ (c .before .before .before .before .wrong-reset-sizes .ensures) _ (c .before .before .before .if1 .left)
     (failed-first (wireSizes net) (workSizes net (a .work .now)) _ (c .before .before .wrong-wire-sizes .ensures) _ (c .before .if2 .left)
     (rw (c .cells-for .ensures) (sym (or-false _))))

@@ -8,6 +8,7 @@ use borrow.Author.Needs.{needs}
 use lib.ListN.{length}
 use Rattle.model.specs.Places.{any}
 use Rattle.model.specs.Net.{Net, netOf}
+use Rattle.model.specs.Lent.{netNow}
 use Rattle.model.specs.Rules.{wireTests}
 use Rattle.basis.proofs.Finding.{NoneBelow, none-yet, first-at, first-none}
 use Rattle.tables.proofs.first_wrong_wire.Statement.{statement}
@@ -31,7 +32,7 @@ wrong-wire-requires c κs = search needs
 returns : tie.Need-returns Inv-loop μ-loop
 returns c =
     let a = c .before .before .before .before .before .before .before .before .before .args in
-    let net = netOf (a .kinds .now) (a .types .now) (a .gates .now) (a .sources .now) (a .drains .now) in
+    let net = netNow (a .kinds) (a .types) (a .gates) (a .sources) (a .drains) in
     first-at (length (a .types .now)) (Wrong net) _ (c .before .before .loop-test .taken) (sym (c .before .wrong-wire .ensures) ∙ c .if1 .taken) (c .before .before .before .loop .inv .1)
 
 add-t : tie.Need-add-t Inv-loop μ-loop
@@ -43,13 +44,13 @@ loop-less c = search needs
 loop-again : tie.Need-loop-again Inv-loop μ-loop
 loop-again c =
     let a = c .before .before .before .before .before .before .before .before .before .args in
-    let net = netOf (a .kinds .now) (a .types .now) (a .gates .now) (a .sources .now) (a .drains .now) in
+    let net = netNow (a .kinds) (a .types) (a .gates) (a .sources) (a .drains) in
     (omega arith, below-more (λ (q : ℕ). Wrong net q ≡ false) _ (c .before .before .before .loop .inv .1) (sym (c .before .wrong-wire .ensures) ∙ c .if1 .left))
 
 returns-2 : tie.Need-returns-2 Inv-loop μ-loop
 returns-2 c =
     let a = c .before .before .before .before .before .before .before .args in
-    let net = netOf (a .kinds .now) (a .types .now) (a .gates .now) (a .sources .now) (a .drains .now) in
+    let net = netNow (a .kinds) (a .types) (a .gates) (a .sources) (a .drains) in
     first-none (length (a .types .now)) (Wrong net) _ (c .before .loop .inv .0) (c .loop-test .left) (c .before .loop .inv .1)
 
 pub first-wrong-wire-spec : {M : Type 1} → statement M
