@@ -11,7 +11,7 @@ use lib.Seq.{ext-getD, take-suc, take-all, getD-take, getD-set-same, getD-set-ot
 use lib.Dec.{eqb}
 use borrow.Author.Tests.{eqb-true, eq-eqb, not-false}
 use Rattle.model.specs.Places.{tab, some, at}
-use Rattle.model.specs.Run.{Changes, put, changed, raised, lowered, changesOf}
+use Rattle.model.specs.Run.{put, changed, raised, lowered, changesOf}
 use Rattle.laws.proofs.Places.{length-tab, getD-tab, some-at, some-of}
 use Rattle.laws.proofs.Changes.{length-put, put-unnamed, put-named}
 use Rattle.basis.specs.Sound.{Named, Once}

@@ -5,7 +5,6 @@ use native.Mathlib.Nat.{zero-add}
 use mathlib.Core.Path.{_≡_, refl, sym, _∙_}
 use mathlib.Core.Bool.{Bool, true, false}
 use mathlib.Core.List.{List}
-use lib.ListN.{length}
 use Rattle.model.specs.Places.{at}
 use Rattle.model.specs.Net.{Net, nodes, standAt, sourceState}
 use Rattle.model.specs.Ways.{Frame}

@@ -1,6 +1,6 @@
 -- `row_of` meets its contract: the row of an answer is its four numbers. Assumes nothing.
 use mathlib.Core.Path.{_≡_, refl, sym}
-use mathlib.Core.List.{List, [], _∷_}
+use mathlib.Core.List.{[], _∷_}
 use Rattle.model.specs.Answer.{row, number, place, firstCount, secondCount}
 use Rattle.model.specs.declared.Answer.{Answer}
 use Rattle.model.specs.declared.Answer.the-variants.{Done, Size, Limit, Kind, Wire, State, Change, Start, Oscillates}
