@@ -10,10 +10,10 @@ fn show_number(n: u32) {
 fn show(what: &[u8], answer: Answer) {
     io::write_all(1, what);
     io::write_all(1, b":");
-    show_number(model::number_of(answer));
-    show_number(model::place_of(answer));
-    show_number(model::first_count_of(answer));
-    show_number(model::second_count_of(answer));
+    show_number(answers::number_of(answer));
+    show_number(answers::place_of(answer));
+    show_number(answers::first_count_of(answer));
+    show_number(answers::second_count_of(answer));
     io::write_all(1, b"\n");
 }
 

@@ -29,10 +29,10 @@ fn show_states(states: &[u8]) {
 // A line of the set.
 fn show(mark: &[u8], answer: Answer, states: &[u8]) {
     io::write_all(1, mark);
-    show_number(model::number_of(answer));
-    show_number(model::place_of(answer));
-    show_number(model::first_count_of(answer));
-    show_number(model::second_count_of(answer));
+    show_number(answers::number_of(answer));
+    show_number(answers::place_of(answer));
+    show_number(answers::first_count_of(answer));
+    show_number(answers::second_count_of(answer));
     io::write_all(1, b" ");
     show_states(states);
     io::write_all(1, b"\n");
