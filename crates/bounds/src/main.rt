@@ -1,384 +1,159 @@
-// Both sides of each bound, through the library's entries and at full size: for each a line with what is lent, then answer, place,
-// first count and second count.
+// Both sides of each bound, through the library's entries. A line a call: the entry and what is lent, in numbers, as the title above it says,
+// then answer, place, first count and second count. First the lengths, at full size, then what the tables hold.
 use model::Answer;
+use trials::Entry;
+ghost use Prim.Native.Nat.{_≤_};
 
-fn show_number(n: u32) {
-    io::write_all(1, b" ");
-    io::print_decimal(1, n as u64);
-}
+// Kinds of nodes: plain, with a pullup, input.
+const N: u8 = 0;
 
-fn show(what: &[u8], answer: Answer) {
-    io::write_all(1, what);
+const P: u8 = 1;
+
+const I: u8 = 2;
+
+fn show(entry: Entry, lent: &[usize], answer: Answer) {
+    trials::show_entry(entry);
+    lines::show_numbers(lent);
     io::write_all(1, b":");
-    show_number(answers::number_of(answer));
-    show_number(answers::place_of(answer));
-    show_number(answers::first_count_of(answer));
-    show_number(answers::second_count_of(answer));
+    lines::show_answer(answer);
     io::write_all(1, b"\n");
 }
 
-// Nodes without transistors.
-fn check_nodes(what: &[u8], kinds: &[u8]) {
-    let none: &[u16] = &[0u16; 0];
-    show(what, twistdory::check(kinds, b"", none, none, none));
+// A ring of nodes by transistors that are listed twice, all alike but for node 0, which is an input, with changes of the first nodes to one
+// new state. So many kinds, states, types, gates and ends, changes and work cells of it are lent.
+fn ring(
+    entry: Entry,
+    kind: u8,
+    ty: u8,
+    gate: u16,
+    state: u8,
+    new: u8,
+    limit: u32,
+    n: usize,
+    s: usize,
+    m: usize,
+    e: usize,
+    c: usize,
+    cells: usize,
+) -> Answer
+    requires { ⌜ (n ≤ 4097) × (s ≤ 4097) × (m ≤ 8193) × (e ≤ 8193) × (c ≤ 4097) × (cells ≤ 32769) ⌝ }
+{
+    let kinds = bench::ring_kinds(kind);
+    let mut states = [state; 4097];
+    let types = [ty; 8193];
+    let gates = [gate; 8193];
+    let sources = bench::ring_nodes(0);
+    let drains = bench::ring_nodes(1);
+    let nodes = bench::ring_nodes(0);
+    let news = [new; 4097];
+    let mut work = [9u16; 32769];
+    trials::call(
+        entry,
+        &kinds[..n],
+        &mut states[..s],
+        &types[..m],
+        &gates[..e],
+        &sources[..e],
+        &drains[..e],
+        &nodes[..c],
+        &news[..c],
+        limit,
+        &mut work[..cells],
+    )
 }
 
-// No node is too few, 4,097 are too many; kinds are 0 to 2.
-fn nodes() {
-    let kinds = [0u8; 4097];
-    check_nodes(b"check 0 nodes", &kinds[..0]);
-    check_nodes(b"check 1 node", &kinds[..1]);
-    check_nodes(b"check 4096 nodes", &kinds[..4096]);
-    check_nodes(b"check 4097 nodes", &kinds);
-    check_nodes(b"check kind 2", b"\x00\x02");
-    check_nodes(b"check kind 3", b"\x00\x03");
+// A line of lengths, of a ring of closed transistors at 0, with changes to 1.
+fn lengths(entry: Entry, kind: u8, n: usize, s: usize, m: usize, e: usize, c: usize, cells: usize)
+    requires { ⌜ (n ≤ 4097) × (s ≤ 4097) × (m ≤ 8193) × (e ≤ 8193) × (c ≤ 4097) × (cells ≤ 32769) ⌝ }
+{
+    let answer = ring(entry, kind, 2, 0, 0, 1, 0, n, s, m, e, c, cells);
+    let lent = [kind as usize, n, s, m, e, c, cells];
+    show(entry, &lent, answer);
 }
 
-// Transistors whose ends are all listed in one table.
-fn check_transistors(what: &[u8], types: &[u8], ends: &[u16]) {
-    show(
-        what,
-        twistdory::check(b"\x02\x00\x00", types, ends, ends, ends),
-    );
+// A line of contents, of three nodes and one transistor.
+fn contents(entry: Entry, kind: u8, ty: u8, gate: u16, state: u8, c: usize, new: u8, limit: u32)
+    requires { ⌜ c ≤ 4097 ⌝ }
+{
+    let answer = ring(entry, kind, ty, gate, state, new, limit, 3, 3, 1, 1, c, 14);
+    let lent = [
+        kind as usize,
+        ty as usize,
+        gate as usize,
+        state as usize,
+        c,
+        new as usize,
+        limit as usize,
+    ];
+    show(entry, &lent, answer);
 }
 
-// 8,193 transistors are too many; node numbers are below the node count; types are 0 to 2.
-fn transistors() {
-    let types = [0u8; 8193];
-    let ends = [0u16; 8193];
-    check_transistors(b"check 8192 transistors", &types[..8192], &ends[..8192]);
-    check_transistors(b"check 8193 transistors", &types, &ends);
-    check_transistors(b"check 8193 types for 8192", &types, &ends[..8192]);
-    let two = [2u16];
-    let three = [3u16];
-    let last = [65535u16];
-    check_transistors(b"check node 2 of 3", b"\x00", &two);
-    check_transistors(b"check node 3 of 3", b"\x00", &three);
-    check_transistors(b"check node 65535 of 3", b"\x00", &last);
-    check_transistors(b"check type 2", b"\x02", &two);
-    check_transistors(b"check type 3", b"\x03", &two);
+// 0 nodes are too few, 4,097 too many; 8,193 transistors are too many; the tables of transistors have one length, kinds and states another.
+fn lengths_of_tables() {
+    lengths(Entry::Check, N, 0, 0, 0, 0, 0, 0);
+    lengths(Entry::Check, N, 1, 0, 0, 0, 0, 0);
+    lengths(Entry::Check, N, 4096, 0, 8192, 8192, 0, 0);
+    lengths(Entry::Check, N, 4097, 0, 0, 0, 0, 0);
+    lengths(Entry::Check, N, 4096, 0, 8193, 8193, 0, 0);
+    lengths(Entry::Check, N, 4096, 0, 8193, 8192, 0, 0);
+    lengths(Entry::Reset, N, 4096, 4096, 0, 0, 0, 0);
+    lengths(Entry::Reset, N, 4097, 4097, 0, 0, 0, 0);
+    lengths(Entry::Reset, N, 4097, 4096, 0, 0, 0, 0);
 }
 
-// Reset takes as many states as there are nodes, whatever they hold.
-fn reset(what: &[u8], kinds: &[u8], states: &mut [u8]) {
-    show(what, twistdory::reset(kinds, states));
+// A step and the runs at full size need 32,768 work cells, and so do 4,096 changes of as many inputs; 4,097 changes are too many.
+fn lengths_of_runs() {
+    lengths(Entry::Step, N, 4096, 4096, 8192, 8192, 0, 32767);
+    lengths(Entry::Step, N, 4096, 4096, 8192, 8192, 0, 32768);
+    lengths(Entry::Unit, N, 4096, 4096, 8192, 8192, 1, 32768);
+    lengths(Entry::Ternary, N, 4096, 4096, 8192, 8192, 1, 32769);
+    lengths(Entry::Unit, I, 4096, 4096, 8192, 8192, 4096, 32768);
+    lengths(Entry::Unit, I, 4096, 4096, 8192, 8192, 4097, 32768);
+    lengths(Entry::Step, N, 3, 3, 1, 1, 0, 13);
+    lengths(Entry::Step, N, 3, 3, 1, 1, 0, 14);
 }
 
-fn resets() {
-    let kinds = [0u8; 4097];
-    let mut states = [255u8; 4097];
-    let mut fewer = [255u8; 4096];
-    reset(b"reset 4096 nodes", &kinds[..4096], &mut fewer);
-    reset(b"reset 4097 nodes", &kinds, &mut states);
-    reset(b"reset 4097 nodes with 4096 states", &kinds, &mut fewer);
+// Kinds, types and states end at 2, node numbers below the node count; reset takes any state.
+fn contents_of_tables() {
+    contents(Entry::Check, 2, 0, 0, 0, 0, 0, 0);
+    contents(Entry::Check, 3, 0, 0, 0, 0, 0, 0);
+    contents(Entry::Check, N, 2, 0, 0, 0, 0, 0);
+    contents(Entry::Check, N, 3, 0, 0, 0, 0, 0);
+    contents(Entry::Check, N, 0, 2, 0, 0, 0, 0);
+    contents(Entry::Check, N, 0, 3, 0, 0, 0, 0);
+    contents(Entry::Check, N, 0, 65535, 0, 0, 0, 0);
+    contents(Entry::Reset, N, 0, 0, 255, 0, 0, 0);
+    contents(Entry::Step, N, 0, 0, 2, 0, 0, 0);
+    contents(Entry::Step, N, 0, 0, 3, 0, 0, 0);
 }
 
-// An inverter: 0 I, 1 I, 2 P; n(1; 0, 2). It needs 14 work cells.
-fn step(what: &[u8], states: &mut [u8], work: &mut [u16]) {
-    let gates = [1u16];
-    let sources = [0u16];
-    let drains = [2u16];
-    show(
-        what,
-        twistdory::step(
-            b"\x02\x02\x01",
-            states,
-            b"\x00",
-            &gates,
-            &sources,
-            &drains,
-            work,
-        ),
-    );
-}
-
-fn unit_run(what: &[u8], states: &mut [u8], nodes: &[u16], news: &[u8], limit: u32) {
-    let gates = [1u16];
-    let sources = [0u16];
-    let drains = [2u16];
-    let mut work = [0u16; 14];
-    show(
-        what,
-        twistdory::unit_run(
-            b"\x02\x02\x01",
-            states,
-            b"\x00",
-            &gates,
-            &sources,
-            &drains,
-            nodes,
-            news,
-            limit,
-            &mut work,
-        ),
-    );
-}
-
-fn ternary_run(what: &[u8], states: &mut [u8], nodes: &[u16], news: &[u8]) {
-    let gates = [1u16];
-    let sources = [0u16];
-    let drains = [2u16];
-    let mut work = [0u16; 14];
-    show(
-        what,
-        twistdory::ternary_run(
-            b"\x02\x02\x01",
-            states,
-            b"\x00",
-            &gates,
-            &sources,
-            &drains,
-            nodes,
-            news,
-            &mut work,
-        ),
-    );
-}
-
-fn work_areas() {
-    let mut exact = [9u16; 14];
-    let mut less = [9u16; 13];
-    let mut states = [0u8, 1, 1];
-    let mut high = [0u8, 1, 3];
-    step(b"step with 13 cells", &mut states, &mut less);
-    step(b"step with 14 cells", &mut states, &mut exact);
-    step(b"step with state 3", &mut high, &mut exact);
-}
-
-// The limit, a run that ends exactly at it, and a settled and an unsettled start.
-fn limits() {
-    let none: &[u16] = &[0u16; 0];
-    let second = [1u16];
-    let mut ready = [0u8, 1, 0];
-    let mut moving = [0u8, 1, 1];
-    unit_run(b"unit run with limit 10001", &mut moving, none, b"", 10001);
-    ternary_run(
-        b"ternary run from an unsettled start",
-        &mut moving,
-        none,
-        b"",
-    );
-    unit_run(b"unit run with limit 10000", &mut moving, none, b"", 10000);
-    ternary_run(b"ternary run from a settled start", &mut ready, none, b"");
-    unit_run(
-        b"unit run that ends at its limit",
-        &mut ready,
-        &second,
-        b"\x00",
-        1,
-    );
-}
-
-// Changes of what is an input and of what is none.
-fn single_changes() {
-    let first = [0u16];
-    let second = [1u16];
-    let third = [2u16];
-    let fourth = [3u16];
-    let mut ready = [0u8, 1, 0];
-    unit_run(
-        b"unit run with an input that stays",
-        &mut ready,
-        &first,
-        b"\x00",
-        1,
-    );
-    unit_run(
-        b"unit run with a change of no input",
-        &mut ready,
-        &third,
-        b"\x00",
-        1,
-    );
-    unit_run(
-        b"unit run with a change of no node",
-        &mut ready,
-        &fourth,
-        b"\x00",
-        1,
-    );
-    unit_run(
-        b"unit run with a change to 3",
-        &mut ready,
-        &second,
-        b"\x03",
-        1,
-    );
-}
-
-// Node i, or the one after it, and from node 4,096 on the first again.
-fn node(i: usize, after: usize) -> u16 {
-    ((i % 4096 + after % 2) % 4096) as u16
-}
-
-fn name_nodes(table: &mut [u16], after: usize) {
-    let mut i = 0;
-    while i < table.len() {
-        table[i] = node(i, after);
-        i += 1;
-    }
-}
-
-// As many changes as there may be, of as many inputs.
-fn changes(what: &[u8], states: &mut [u8], nodes: &mut [u16], news: &[u8]) {
-    name_nodes(nodes, 0);
-    let none: &[u16] = &[0u16; 0];
-    let kinds = [2u8; 4096];
-    let mut work = [0u16; 16384];
-    show(
-        what,
-        twistdory::unit_run(
-            &kinds,
-            states,
-            b"",
-            none,
-            none,
-            none,
-            nodes,
-            news,
-            0,
-            &mut work,
-        ),
-    );
-}
-
-fn change_lists() {
-    let news = [1u8; 4097];
-    let mut states = [0u8; 4096];
-    let mut most = [0u16; 4096];
-    let mut more = [0u16; 4097];
-    changes(
-        b"unit run with 4096 changes",
-        &mut states,
-        &mut most,
-        &news[..4096],
-    );
-    changes(b"unit run with 4097 changes", &mut states, &mut more, &news);
-}
-
-// 4,096 nodes in a ring of 8,192 closed transistors, each listed twice, with one input: what it does reaches every node at once.
-fn ring_step(
-    what: &[u8],
-    kinds: &[u8],
-    states: &mut [u8],
-    types: &[u8],
-    gates: &[u16],
-    sources: &[u16],
-    drains: &[u16],
-    work: &mut [u16],
-) {
-    show(
-        what,
-        twistdory::step(kinds, states, types, gates, sources, drains, work),
-    );
-}
-
-fn ring_runs(
-    kinds: &[u8],
-    states: &mut [u8],
-    types: &[u8],
-    gates: &[u16],
-    sources: &[u16],
-    drains: &[u16],
-    lower: &mut [u8],
-    work: &mut [u16],
-    again: &mut [u16],
-) {
-    let first: &[u16] = &[0u16; 1];
-    let up = twistdory::unit_run(
-        kinds,
-        states,
-        types,
-        gates,
-        sources,
-        drains,
-        first,
-        b"\x01",
-        0,
-        work,
-    );
-    show(b"unit run of 4096 nodes and 8192 transistors", up);
-    let both = twistdory::ternary_run(
-        kinds,
-        lower,
-        types,
-        gates,
-        sources,
-        drains,
-        first,
-        b"\x01",
-        again,
-    );
-    show(b"ternary run of 4096 nodes and 8192 transistors", both);
-}
-
-fn ring_steps(kinds: &[u8], types: &[u8], gates: &[u16], sources: &[u16], drains: &[u16]) {
-    let mut low = [0u8; 4096];
-    let mut high = [1u8; 4096];
-    let mut short = [9u16; 32767];
-    let mut work = [9u16; 32768];
-    let less = b"step of 4096 nodes and 8192 transistors with 32767 cells";
-    ring_step(
-        less,
-        kinds,
-        &mut low,
-        types,
-        gates,
-        sources,
-        drains,
-        &mut short,
-    );
-    let exact = b"step of 4096 nodes and 8192 transistors with 32768 cells";
-    ring_step(
-        exact,
-        kinds,
-        &mut high,
-        types,
-        gates,
-        sources,
-        drains,
-        &mut work,
-    );
-}
-
-fn ring(sources: &[u16], drains: &[u16]) {
-    let mut kinds = [0u8; 4096];
-    kinds[0] = 2;
-    let types = [2u8; 8192];
-    let gates = [0u16; 8192];
-    let mut low = [0u8; 4096];
-    let mut lower = [0u8; 4096];
-    let mut work = [9u16; 32768];
-    let mut more = [9u16; 32769];
-    ring_steps(&kinds, &types, &gates, sources, drains);
-    ring_runs(
-        &kinds,
-        &mut low,
-        &types,
-        &gates,
-        sources,
-        drains,
-        &mut lower,
-        &mut work,
-        &mut more,
-    );
-}
-
-fn full_size(sources: &mut [u16], drains: &mut [u16]) {
-    name_nodes(sources, 0);
-    name_nodes(drains, 1);
-    ring(sources, drains);
+// The limit ends at 10,000, and a run may end exactly at its limit. A ternary run needs a settled start: a pullup at 0 is none. Of the changes,
+// the first is of an input, also to the state that it has, the second of no input, the fourth of no node; new states end at 2.
+fn contents_of_runs() {
+    contents(Entry::Unit, P, 0, 0, 0, 0, 0, 10000);
+    contents(Entry::Unit, P, 0, 0, 0, 0, 0, 10001);
+    contents(Entry::Unit, P, 0, 0, 0, 0, 0, 1);
+    contents(Entry::Ternary, P, 0, 0, 0, 0, 0, 0);
+    contents(Entry::Ternary, P, 0, 0, 1, 0, 0, 0);
+    contents(Entry::Unit, N, 0, 0, 0, 1, 0, 1);
+    contents(Entry::Unit, N, 0, 0, 0, 2, 0, 1);
+    contents(Entry::Unit, I, 0, 0, 0, 3, 1, 1);
+    contents(Entry::Unit, I, 0, 0, 0, 4, 1, 1);
+    contents(Entry::Unit, I, 0, 0, 0, 1, 2, 1);
+    contents(Entry::Unit, I, 0, 0, 0, 1, 3, 1);
 }
 
 fn main() {
-    nodes();
-    transistors();
-    resets();
-    work_areas();
-    limits();
-    single_changes();
-    change_lists();
-    let mut sources = [0u16; 8192];
-    let mut drains = [0u16; 8192];
-    full_size(&mut sources, &mut drains);
+    io::write_all(
+        1,
+        b"entry kind nodes states types ends changes cells: answer place count count\n",
+    );
+    lengths_of_tables();
+    lengths_of_runs();
+    io::write_all(
+        1,
+        b"entry kind type gate state changes new limit: answer place count count\n",
+    );
+    contents_of_tables();
+    contents_of_runs();
 }
