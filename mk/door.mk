@@ -46,7 +46,7 @@ build/libstandin.a: build/outside/standin.o build/compare/plain.o
 # ---- programs, for each library in a folder of its own
 
 # The programs to compare with never read the library's header.
-build/compare/%.o: DOOR_INCLUDES = -Icompare
+build/compare/%.o build/fast/compare/%.o: DOOR_INCLUDES = -Icompare
 
 build/%.o: %.c $(DOOR_HEADERS)
 	@mkdir -p $(@D)
@@ -55,7 +55,7 @@ build/%.o: %.c $(DOOR_HEADERS)
 DOOR_PARTS = build/outside/door.o build/outside/lend.o build/compare/network.o build/compare/brute.o
 HOST_PARTS = build/outside/host.o build/outside/numbers.o build/outside/check_bench_set.o build/outside/check_refusals.o \
 	build/outside/check_full_size.o build/outside/check_small.o build/outside/check_random.o $(DOOR_PARTS)
-BENCH_SOURCES = perf/bench.c compare/shapes.c compare/plain.c
+BENCH_PARTS = build/fast/perf/bench.o build/fast/compare/shapes.o build/fast/compare/plain.o
 
 build/%/host: $(HOST_PARTS) build/%.a
 	@mkdir -p $(@D)
@@ -72,9 +72,13 @@ build/verilog-writer: build/perf/verilog.o build/compare/shapes.o build/compare/
 	@$(DOOR_CC) && $$cc -o $@ $^
 
 # At -O3, the level at which the library is compiled.
-build/%/bench: $(BENCH_SOURCES) $(DOOR_HEADERS) build/%.a
+build/fast/%.o: %.c $(DOOR_HEADERS)
 	@mkdir -p $(@D)
-	@$(DOOR_CC) && $$cc $(DOOR_CFLAGS) -O3 -o $@ $(BENCH_SOURCES) build/$*.a
+	@$(DOOR_CC) && $$cc $(DOOR_CFLAGS) -O3 -c -o $@ $<
+
+build/%/bench: $(BENCH_PARTS) build/%.a
+	@mkdir -p $(@D)
+	@$(DOOR_CC) && $$cc -o $@ $^
 
 # ---- checks
 
