@@ -134,6 +134,18 @@ pub fn tables_of(net: Net) -> Network
     }
 }
 
+// A table of 256 nodes with the states of its first four.
+pub fn started(all: [u8; 256], start: [u8; 4]) -> [u8; 256]
+    ensures { λ r. ⌜ length r ≡ 256 ⌝ }
+{
+    let mut table = all;
+    table[0] = start[0];
+    table[1] = start[1];
+    table[2] = start[2];
+    table[3] = start[3];
+    table
+}
+
 // What is changed before the first step: nodes, each with its new state.
 pub enum Changes {
     None,

@@ -11,14 +11,6 @@ const P: u8 = 1;
 
 const I: u8 = 2;
 
-fn show(entry: Entry, lent: &[usize], answer: Answer) {
-    trials::show_entry(entry);
-    lines::show_numbers(lent);
-    io::write_all(1, b":");
-    lines::show_answer(answer);
-    io::write_all(1, b"\n");
-}
-
 // A ring of nodes by transistors that are listed twice, all alike but for node 0, which is an input, with changes of the first nodes to one
 // new state. So many kinds, states, types, gates and ends, changes and work cells of it are lent.
 fn ring(
@@ -68,7 +60,8 @@ fn lengths(entry: Entry, kind: u8, n: usize, s: usize, m: usize, e: usize, c: us
 {
     let answer = ring(entry, kind, 2, 0, 0, 1, 0, n, s, m, e, c, cells);
     let lent = [kind as usize, n, s, m, e, c, cells];
-    show(entry, &lent, answer);
+    trials::show_entry(entry);
+    lines::show_row(&lent, answer);
 }
 
 // A line of contents, of three nodes and one transistor.
@@ -85,7 +78,8 @@ fn contents(entry: Entry, kind: u8, ty: u8, gate: u16, state: u8, c: usize, new:
         new as usize,
         limit as usize,
     ];
-    show(entry, &lent, answer);
+    trials::show_entry(entry);
+    lines::show_row(&lent, answer);
 }
 
 // 0 nodes are too few, 4,097 too many; 8,193 transistors are too many; the tables of transistors have one length, kinds and states another.

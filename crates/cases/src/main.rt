@@ -3,41 +3,16 @@
 // lends the front of the table.
 use bench::Changes;
 use bench::Net;
-use model::Answer;
 use trials::Entry;
-ghost use mathlib.Core.Path.{_≡_};
-ghost use lib.ListN.{length};
 
 // The state that is not known.
 const X: u8 = 2;
 
-// The table that a case starts from: 256 nodes, all at X but for those whose states it names.
-fn table_of(start: [u8; 4]) -> [u8; 256]
-    ensures { λ r. ⌜ length r ≡ 256 ⌝ }
-{
-    let mut table = [2u8; 256];
-    table[0] = start[0];
-    table[1] = start[1];
-    table[2] = start[2];
-    table[3] = start[3];
-    table
-}
-
-// A line of the set.
-fn show(mark: u32, answer: Answer, states: &[u8]) {
-    io::write_all(1, b"K");
-    io::print_decimal(1, mark as u64);
-    lines::show_answer(answer);
-    io::write_all(1, b" ");
-    lines::show_states(states);
-    io::write_all(1, b"\n");
-}
-
-// One case: a network, its states at the start, the changes, and a run. All tables are lent here.
+// One case: a network, the states of its nodes in a table of 256 that are all at X, the changes, and a run. All tables are lent here.
 fn case(mark: u32, net: Net, start: [u8; 4], changes: Changes, run: Entry, limit: u32) {
     let tables = bench::tables_of(net);
     let list = bench::list_of(changes);
-    let mut table = table_of(start);
+    let mut table = bench::started([2u8; 256], start);
     let n = tables.nodes;
     let t = tables.transistors;
     let c = list.count;
@@ -62,7 +37,7 @@ fn case(mark: u32, net: Net, start: [u8; 4], changes: Changes, run: Entry, limit
         limit,
         &mut work,
     );
-    show(mark, answer, &table[..n]);
+    lines::show_case(mark, answer, &table[..n]);
 }
 
 // A unit run to a limit, where 0 stands for the default.

@@ -1,12 +1,12 @@
-// What the programs print: numbers, each after a blank, an answer's four numbers, states.
+// What the programs print: a line of the bench set, and a row of numbers with an answer.
 use model::Answer;
 
-pub fn show_number(n: usize) {
+fn show_number(n: usize) {
     io::write_all(1, b" ");
     io::print_decimal(1, n as u64);
 }
 
-pub fn show_numbers(row: &[usize]) {
+fn show_numbers(row: &[usize]) {
     let mut i = 0;
     while i < row.len() {
         show_number(row[i]);
@@ -15,7 +15,7 @@ pub fn show_numbers(row: &[usize]) {
 }
 
 // Number, place, first count and second count.
-pub fn show_answer(answer: Answer) {
+fn show_answer(answer: Answer) {
     let row = answers::row_of(answer);
     show_number(row[0] as usize);
     show_number(row[1] as usize);
@@ -39,10 +39,28 @@ fn show_state(state: u8) {
 }
 
 // The states from node 0.
-pub fn show_states(states: &[u8]) {
+fn show_states(states: &[u8]) {
     let mut v = 0;
     while v < states.len() {
         show_state(states[v]);
         v += 1;
     }
+}
+
+// A line of the bench set: its mark, the answer, the states.
+pub fn show_case(mark: u32, answer: Answer, states: &[u8]) {
+    io::write_all(1, b"K");
+    io::print_decimal(1, mark as u64);
+    show_answer(answer);
+    io::write_all(1, b" ");
+    show_states(states);
+    io::write_all(1, b"\n");
+}
+
+// A row: numbers, then the answer.
+pub fn show_row(numbers: &[usize], answer: Answer) {
+    show_numbers(numbers);
+    io::write_all(1, b":");
+    show_answer(answer);
+    io::write_all(1, b"\n");
 }
