@@ -1,5 +1,4 @@
-// One unit step of a network, evaluated in the lent work area: the next states of all nodes from the same old ones, how many of
-// them differ, and their taking effect.
+// One unit step of a network, evaluated in the lent work area: the next states of all nodes from the same old ones.
 // The work area of n nodes: definite strengths in [0, n), the tables against 0 and against 1 in [n, 2n) and [2n, 3n), a floor of
 // zeros in [3n, 4n); at the end the next states in [0, n).
 ghost use lib.ListN.{length};
