@@ -1,5 +1,5 @@
-// Networks for the programs, as tables by value whose fronts are lent: the bench set by name, with lists of up to two changes, and a ring that is
-// larger than any that is taken.
+// Networks for the programs, by name, as tables by value whose fronts are lent: the bench set, with lists of up to two changes, and two networks
+// that are larger than any that is taken.
 ghost use Prim.Native.Nat.{_≤_};
 ghost use mathlib.Core.Path.{_≡_};
 ghost use lib.ListN.{length};
@@ -182,29 +182,73 @@ pub fn list_of(changes: Changes) -> ChangeList
     }
 }
 
-// Node i, or the one after it, and from node 4,096 on the first again.
-fn node(i: usize, after: usize) -> u16 {
-    ((i % 4096 + after % 2) % 4096) as u16
+// Large networks by name, of which a program lends as much as it names.
+pub enum Large {
+    // a ring of nodes that are all of one kind but for node 0, an input, by transistors of one type and gate; from transistor 4,096 on each is
+    // listed a second time
+    Ring { kind: u8, ty: u8, gate: u16 },
+    // inverters in a row: node 0 is ground, node 1 the input of the first; each has a pullup
+    Inverters,
 }
 
-// The nodes of the ring in turn, each twice: the sources of its transistors, or their drains.
-pub fn ring_nodes(after: usize) -> [u16; 8193]
+// Larger than any that is taken.
+pub struct LargeNetwork {
+    pub kinds: [u8; 4097],
+    pub types: [u8; 8193],
+    pub gates: [u16; 8193],
+    pub sources: [u16; 8193],
+    pub drains: [u16; 8193],
+}
+
+// Nodes 0 and 1, and all others alike.
+fn kinds_of(first: u8, second: u8, others: u8) -> [u8; 4097]
+    ensures { λ r. ⌜ length r ≡ 4097 ⌝ }
+{
+    let mut kinds = [others; 4097];
+    kinds[0] = first;
+    kinds[1] = second;
+    kinds
+}
+
+// The node that follows another by so many; after node 4,095 comes node 0.
+fn node_after(node: usize, by: usize) -> u16 {
+    ((node % 4096 + by % 4096) % 4096) as u16
+}
+
+// Nodes in turn, from the first on.
+pub fn nodes_from(first: usize) -> [u16; 8193]
     ensures { λ r. ⌜ length r ≡ 8193 ⌝ }
 {
     let mut table = [0u16; 8193];
     let mut i = 0;
     while i < 8193 {
-        table[i] = node(i, after);
+        table[i] = node_after(first, i);
         i += 1;
     }
     table
 }
 
-// Its kinds: node 0 is an input, the others are of one kind.
-pub fn ring_kinds(kind: u8) -> [u8; 4097]
-    ensures { λ r. ⌜ length r ≡ 4097 ⌝ }
+pub fn large_of(net: Large) -> LargeNetwork
+    ensures { λ r. ⌜ length (r .kinds) ≡ 4097 ⌝ }
+    ensures { λ r. ⌜ length (r .types) ≡ 8193 ⌝ }
+    ensures { λ r. ⌜ length (r .gates) ≡ 8193 ⌝ }
+    ensures { λ r. ⌜ length (r .sources) ≡ 8193 ⌝ }
+    ensures { λ r. ⌜ length (r .drains) ≡ 8193 ⌝ }
 {
-    let mut kinds = [kind; 4097];
-    kinds[0] = I;
-    kinds
+    match net {
+        Large::Ring { kind, ty, gate } => LargeNetwork {
+            kinds: kinds_of(I, kind, kind),
+            types: [ty; 8193],
+            gates: [gate; 8193],
+            sources: nodes_from(0),
+            drains: nodes_from(1),
+        },
+        Large::Inverters => LargeNetwork {
+            kinds: kinds_of(I, I, P),
+            types: [TN; 8193],
+            gates: nodes_from(1),
+            sources: [0; 8193],
+            drains: nodes_from(2),
+        },
+    }
 }

@@ -1,5 +1,6 @@
 // Both sides of each bound, through the library's entries. A line a call: the entry and what is lent, in numbers, as the title above it says,
 // then answer, place, first count and second count. First the lengths, at full size, then what the tables hold.
+use bench::Large;
 use model::Answer;
 use trials::Entry;
 ghost use Prim.Native.Nat.{_≤_};
@@ -11,13 +12,14 @@ const P: u8 = 1;
 
 const I: u8 = 2;
 
-// A ring of nodes by transistors that are listed twice, all alike but for node 0, which is an input, with changes of the first nodes to one
-// new state. So many kinds, states, types, gates and ends, changes and work cells of it are lent.
-fn ring(
+// The type of a transistor that is always closed.
+const D: u8 = 2;
+
+// Calls an entry with so many kinds, states, types, gates and ends, changes and work cells of a large network: its nodes in one state, and changes
+// of the first nodes to one new state.
+fn lend(
     entry: Entry,
-    kind: u8,
-    ty: u8,
-    gate: u16,
+    net: Large,
     state: u8,
     new: u8,
     limit: u32,
@@ -30,13 +32,14 @@ fn ring(
 ) -> Answer
     requires { ⌜ (n ≤ 4097) × (s ≤ 4097) × (m ≤ 8193) × (e ≤ 8193) × (c ≤ 4097) × (cells ≤ 32769) ⌝ }
 {
-    let kinds = bench::ring_kinds(kind);
+    let tables = bench::large_of(net);
+    let kinds = tables.kinds;
+    let types = tables.types;
+    let gates = tables.gates;
+    let sources = tables.sources;
+    let drains = tables.drains;
     let mut states = [state; 4097];
-    let types = [ty; 8193];
-    let gates = [gate; 8193];
-    let sources = bench::ring_nodes(0);
-    let drains = bench::ring_nodes(1);
-    let nodes = bench::ring_nodes(0);
+    let nodes = bench::nodes_from(0);
     let news = [new; 4097];
     let mut work = [9u16; 32769];
     trials::call(
@@ -58,7 +61,12 @@ fn ring(
 fn lengths(entry: Entry, kind: u8, n: usize, s: usize, m: usize, e: usize, c: usize, cells: usize)
     requires { ⌜ (n ≤ 4097) × (s ≤ 4097) × (m ≤ 8193) × (e ≤ 8193) × (c ≤ 4097) × (cells ≤ 32769) ⌝ }
 {
-    let answer = ring(entry, kind, 2, 0, 0, 1, 0, n, s, m, e, c, cells);
+    let net = Large::Ring {
+        kind,
+        ty: D,
+        gate: 0,
+    };
+    let answer = lend(entry, net, 0, 1, 0, n, s, m, e, c, cells);
     let lent = [kind as usize, n, s, m, e, c, cells];
     trials::show_entry(entry);
     lines::show_row(&lent, answer);
@@ -68,7 +76,8 @@ fn lengths(entry: Entry, kind: u8, n: usize, s: usize, m: usize, e: usize, c: us
 fn contents(entry: Entry, kind: u8, ty: u8, gate: u16, state: u8, c: usize, new: u8, limit: u32)
     requires { ⌜ c ≤ 4097 ⌝ }
 {
-    let answer = ring(entry, kind, ty, gate, state, new, limit, 3, 3, 1, 1, c, 14);
+    let net = Large::Ring { kind, ty, gate };
+    let answer = lend(entry, net, state, new, limit, 3, 3, 1, 1, c, 14);
     let lent = [
         kind as usize,
         ty as usize,
@@ -79,6 +88,30 @@ fn contents(entry: Entry, kind: u8, ty: u8, gate: u16, state: u8, c: usize, new:
         limit as usize,
     ];
     trials::show_entry(entry);
+    lines::show_row(&lent, answer);
+}
+
+// A line of a unit run of inverters in a row, all at 0 and their input too: each is right one step after the one before it.
+fn inverters(stages: usize, limit: u32)
+    requires { ⌜ stages ≤ 1001 ⌝ }
+{
+    let nodes = stages + 2;
+    let cells = 4 * nodes + 2 * stages;
+    let answer = lend(
+        Entry::Unit,
+        Large::Inverters,
+        0,
+        0,
+        limit,
+        nodes,
+        nodes,
+        stages,
+        stages,
+        0,
+        cells,
+    );
+    let lent = [stages, limit as usize];
+    trials::show_entry(Entry::Unit);
     lines::show_row(&lent, answer);
 }
 
@@ -137,6 +170,17 @@ fn contents_of_runs() {
     contents(Entry::Unit, I, 0, 0, 0, 1, 3, 1);
 }
 
+// Each stage takes a step. A limit of 0 stands for 1,000 steps, and a limit of 100 for 100.
+fn default_limit() {
+    inverters(300, 0);
+    inverters(300, 100);
+    inverters(300, 299);
+    inverters(300, 300);
+    inverters(1000, 0);
+    inverters(1001, 0);
+    inverters(1001, 1001);
+}
+
 fn main() {
     io::write_all(
         1,
@@ -150,4 +194,6 @@ fn main() {
     );
     contents_of_tables();
     contents_of_runs();
+    io::write_all(1, b"entry stages limit: answer place count count\n");
+    default_limit();
 }

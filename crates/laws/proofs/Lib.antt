@@ -16,3 +16,4 @@ pub mod Outcomes
 pub mod Demands
 pub mod Alike
 pub mod OrderFree
+pub mod Ring

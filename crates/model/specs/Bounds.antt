@@ -27,7 +27,7 @@ highestLimit = 10000
 
 -- what the limit 0 stands for
 abbrev pub defaultLimit : ℕ
-defaultLimit = 100
+defaultLimit = 1000
 
 -- the work cells that a network of n nodes and t transistors needs
 abbrev pub cellsFor : ℕ → ℕ → ℕ

@@ -1,12 +1,12 @@
 -- What the bench set leaves out, from the definitions, under one claim: each stand of a transistor, both sides of each bound, a run that ends
--- exactly at its limit, the default limit, the work area after each kind of answer. Assumes nothing.
+-- exactly at its limit, the limit in force, the work area after each kind of answer. Assumes nothing.
 use Prim.Native.Nat.{ℕ, zero, suc}
 use mathlib.Core.Path.{_≡_, refl}
 use mathlib.Core.Bool.{Bool, true, false}
 use mathlib.Core.List.{List, [], _∷_, _++_}
 use Rattle.model.specs.Places.{any}
 use Rattle.model.specs.Net.{Net, Stand, opened, closed, unknown, stand, stands, linked, spread, joined, strength, setState, new, step}
-use Rattle.model.specs.Run.{changesOf, raised, lowered, unitSteps, firstHalf, secondHalf}
+use Rattle.model.specs.Run.{changesOf, raised, lowered, limitOf, unitSteps, firstHalf, secondHalf}
 use Rattle.model.specs.Answer.{row}
 use Rattle.model.specs.Rules.{nodeSizes, wireSizes, changeSizes, wireTests, changeTests, checkSizes, checkRules, resetSizes, resetRules, stepRules, stepSizes, runSizes, runRules, unitRules, ternaryRules}
 use Rattle.model.specs.Entries.{Outcome, altered, cleared, checkAnswer, resetOutcome, stepOutcome, unitOutcome, ternaryOutcome}
@@ -38,6 +38,13 @@ stood = stand 0 0 ∷ stand 0 1 ∷ stand 0 2 ∷ stand 1 0 ∷ stand 1 1 ∷ st
 
 abbrev stoodSo : List Stand
 stoodSo = opened ∷ closed ∷ unknown ∷ closed ∷ opened ∷ unknown ∷ closed ∷ closed ∷ closed ∷ []
+
+-- the limit in force: 0 stands for 1,000, and every other limit for itself
+abbrev inForce : List ℕ
+inForce = limitOf 0 ∷ limitOf 1 ∷ limitOf 100 ∷ limitOf 1000 ∷ limitOf 10000 ∷ []
+
+abbrev inForceSo : List ℕ
+inForceSo = 1000 ∷ 1 ∷ 100 ∷ 1000 ∷ 10000 ∷ []
 
 -- the largest tables, by their lengths: which of them are refused
 abbrev large : List Bool
@@ -85,12 +92,13 @@ seen =
     ∷ line (stepOutcome INV (0 ∷ 1 ∷ 3 ∷ []) (many 14 9))
     ∷ left (stepOutcome INV (0 ∷ 1 ∷ 1 ∷ []) (many 16 9))
     ∷ left (stepOutcome INV (0 ∷ 1 ∷ 3 ∷ []) (many 16 9))
-    -- limits: the highest and one more; reached exactly; not reached; the default
+    -- limits: the highest and one more; reached exactly; a ring, whose node turns over at each step, at three limits
     ∷ line (unitOutcome INV (0 ∷ 1 ∷ 1 ∷ []) (changesOf [] []) 10000 (many 14 9))
     ∷ line (unitOutcome INV (0 ∷ 1 ∷ 1 ∷ []) (changesOf [] []) 10001 (many 14 9))
     ∷ line (unitOutcome INV (0 ∷ 1 ∷ 1 ∷ []) (changesOf [] []) 1 (many 14 9))
     ∷ line (unitOutcome RING (0 ∷ 0 ∷ []) (changesOf [] []) 1 (many 10 9))
-    ∷ line (unitOutcome RING (0 ∷ 0 ∷ []) (changesOf [] []) 0 (many 10 9))
+    ∷ line (unitOutcome RING (0 ∷ 0 ∷ []) (changesOf [] []) 99 (many 10 9))
+    ∷ line (unitOutcome RING (0 ∷ 0 ∷ []) (changesOf [] []) 100 (many 10 9))
     ∷ left (unitOutcome RING (0 ∷ 0 ∷ []) (changesOf [] []) 1 (many 12 9))
     ∷ left (unitOutcome INV (0 ∷ 1 ∷ 1 ∷ []) (changesOf [] []) 10001 (many 16 9))
     -- changes: no node, no input, no state, a node named earlier, one state for two nodes; an input changed to what it is
@@ -141,6 +149,7 @@ seenSo =
     ∷ (2 ∷ 0 ∷ 0 ∷ 0 ∷ 0 ∷ 1 ∷ 1 ∷ [])
     ∷ (0 ∷ 0 ∷ 1 ∷ 0 ∷ 0 ∷ 1 ∷ 0 ∷ [])
     ∷ (8 ∷ 0 ∷ 1 ∷ 0 ∷ 0 ∷ 1 ∷ [])
+    ∷ (8 ∷ 0 ∷ 99 ∷ 0 ∷ 0 ∷ 1 ∷ [])
     ∷ (8 ∷ 0 ∷ 100 ∷ 0 ∷ 0 ∷ 0 ∷ [])
     ∷ (many 10 0 ++ 9 ∷ 9 ∷ [])
     ∷ many 16 9
@@ -159,6 +168,6 @@ seenSo =
     ∷ many 16 9
     ∷ []
 
-pub edges : (stood ≡ stoodSo) × (large ≡ largeSo) × (seen ≡ seenSo)
+pub edges : (stood ≡ stoodSo) × (inForce ≡ inForceSo) × (large ≡ largeSo) × (seen ≡ seenSo)
 unfolding stands linked spread joined strength setState new step raised lowered unitSteps firstHalf secondHalf wireTests changeTests checkSizes checkRules resetSizes resetRules stepRules stepSizes runSizes runRules unitRules ternaryRules altered cleared checkAnswer resetOutcome stepOutcome unitOutcome ternaryOutcome
-edges = (refl, refl, refl)
+edges = (refl, refl, refl, refl)

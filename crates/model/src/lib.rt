@@ -18,7 +18,7 @@ pub const HIGHEST_STATE: u8 = 2;
 
 pub const HIGHEST_LIMIT: u32 = 10000;
 
-pub const DEFAULT_LIMIT: u32 = 100;
+pub const DEFAULT_LIMIT: u32 = 1000;
 
 // The one place in the code that says which kinds are inputs.
 pub fn is_input(kind: u8) -> bool
