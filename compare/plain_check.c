@@ -35,6 +35,7 @@ static bool same_runs(struct call *call, struct plain *plain, struct dice *dice)
 
     memcpy(states, call->states.at, call->states.length);
     call->entry = ENTRY_UNIT_RUN;
+    call->limit = MOST_STEPS;
     bool settled = plain_unit_run(plain, states, &changes, MOST_STEPS, &counts[0]);
     brute_answer(call, answer);
     if (settled != (answer[0] == 0) || counts[0] != answer[2]

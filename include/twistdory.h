@@ -134,10 +134,12 @@ enum {
     TWISTDORY_MAX_CHANGES = 4096      /* none is accepted too */
 };
 
-/* The step limit of a unit run. A limit passed as 0 stands for the default;
-   one above the greatest is refused by TWISTDORY_LIMIT. */
+/* The step limit of a unit run. A limit passed as 0 stands for the default,
+   which is enough for a change that runs through a thousand stages, a step
+   each; one above the greatest is refused by TWISTDORY_LIMIT. To have a loop's
+   states after exactly so many steps, 100 say, pass that number. */
 enum {
-    TWISTDORY_DEFAULT_LIMIT = 100,
+    TWISTDORY_DEFAULT_LIMIT = 1000,
     TWISTDORY_MAX_LIMIT = 10000
 };
 
@@ -310,8 +312,8 @@ void twistdory_step(const uint8_t *kinds, size_t kinds_length,
    `limit` of them (0 stands for TWISTDORY_DEFAULT_LIMIT).
    Answers: DONE, SIZE, LIMIT, KIND, WIRE, STATE, CHANGE, OSCILLATES.
    First count: the least number of steps after which the network is settled;
-   after OSCILLATES the limit in force. A network that settles in exactly the
-   limit's steps is DONE. Second count: 0.
+   after OSCILLATES the limit in force, which is the default if 0 was passed.
+   A network that settles in exactly the limit's steps is DONE. Second count: 0.
    States after DONE: settled. After OSCILLATES: after exactly the limit's
    steps; a further call goes on from there.
 */

@@ -88,9 +88,9 @@ examples: build/$(LIBRARY).a
 # Under the emulator everything takes some twenty times as long: fewer networks there.
 outside: build/$(LIBRARY)/host build/$(LIBRARY)/arrivals build/plain-check
 	@$(DOOR_RUN) && \
-	$$run build/plain-check && \
 	if [ -n "$$run" ]; then part=1000 networks=4000 arrivals=20000; \
-	else part=10 networks=60000 arrivals=400000; fi; \
+	else part=10 networks=60000 arrivals=400000; fi && \
+	$$run build/plain-check && \
 	$$run build/$(LIBRARY)/host --seed $(SEED) --networks $$networks --small-part $$part && \
 	$$run build/$(LIBRARY)/arrivals --seed $(SEED) --networks $$arrivals
 

@@ -17,13 +17,14 @@
 
 enum { DONE, SIZE, LIMIT, KIND, WIRE, STATE, CHANGE, START, OSCILLATES };
 enum { MOST_NODES = 4096, MOST_TRANSISTORS = 8192, MOST_CHANGES = 4096 };
+enum { DEFAULT_LIMIT = 1000 };
 
 static struct storage storage, tile_storage;
 static uint64_t tried;
 
-/* Compares, and holds the answer against the one written here. */
-static void expect(struct call *call, uint32_t number, uint32_t place, brute_stepper *step,
-                   struct dice *dice)
+/* Compares, and holds the answer against the one written here. Gives the first count. */
+static uint32_t expect(struct call *call, uint32_t number, uint32_t place, brute_stepper *step,
+                       struct dice *dice)
 {
     uint32_t answer[4];
     door_now_checking("full", ++tried, "");
@@ -32,6 +33,14 @@ static void expect(struct call *call, uint32_t number, uint32_t place, brute_ste
     door_compare_by(step, call, answer);
     if (answer[0] != number || answer[1] != place)
         door_difference("brute force does not give the answer and place wanted");
+    return answer[2];
+}
+
+/* The same of a unit run, with the count that is wanted. */
+static void expect_count(struct call *call, uint32_t number, uint32_t count, struct dice *dice)
+{
+    if (expect(call, number, 0, brute_step, dice) != count)
+        door_difference("brute force does not give the count wanted");
 }
 
 /* A network of nodes of one kind in state 0 and n transistors from node 0 to node 0. */
@@ -140,20 +149,61 @@ static void change_lists(enum entry entry, struct dice *dice)
     expect(&call, CHANGE, MOST_NODES - 1, brute_step, dice);
 }
 
+/* A loop that never settles: a pullup that shorts itself to ground. */
+static struct call loop(uint32_t limit)
+{
+    struct call call = plain_call(ENTRY_UNIT_RUN, 2, 1, INPUT);
+    call.kinds.at[1] = PULLUP;
+    network_transistor(&call, 0, N_TYPE, 1, 0, 1);
+    call.limit = limit;
+    return call;
+}
+
 static void limits(struct dice *dice)
 {
-    static const uint32_t accepted[] = {0, 1, 100, 9999, 10000};
-    static const uint32_t refused[] = {10001, 65536, 65636, 0x7fffffff, UINT32_MAX};
-    for (int k = 0; k < 5; k++) {
-        /* a loop that never settles: a pullup that shorts itself to ground */
-        struct call call = plain_call(ENTRY_UNIT_RUN, 2, 1, INPUT);
-        call.kinds.at[1] = PULLUP;
-        network_transistor(&call, 0, N_TYPE, 1, 0, 1);
-        call.limit = accepted[k];
-        expect(&call, OSCILLATES, 0, brute_step, dice);
-        call.limit = refused[k];
-        expect(&call, LIMIT, 0, brute_step, dice);
+    static const uint32_t accepted[] = {1, 99, 100, 101, 999, 1000, 1001, 9999, 10000};
+    static const uint32_t refused[] = {10001, 65536, 65636, 66536, 0x7fffffff, UINT32_MAX};
+    for (size_t k = 0; k < sizeof accepted / sizeof *accepted; k++) {
+        struct call call = loop(accepted[k]);
+        expect_count(&call, OSCILLATES, accepted[k], dice);
     }
+    for (size_t k = 0; k < sizeof refused / sizeof *refused; k++) {
+        struct call call = loop(refused[k]);
+        expect_count(&call, LIMIT, 0, dice);
+    }
+    struct call call = loop(0);
+    expect_count(&call, OSCILLATES, DEFAULT_LIMIT, dice);
+}
+
+/* Seven inverters in a ring, one of them out of step with its neighbour: they
+   come back to their states after fourteen steps and no fewer, so the states
+   tell 1,000 steps from 100 and from one more or less. */
+static struct call ring_of_seven(enum entry entry)
+{
+    struct call call = plain_call(entry, 8, 7, PULLUP);
+    call.kinds.at[0] = INPUT;
+    for (uint16_t v = 1; v <= 7; v++) {
+        network_transistor(&call, v - 1u, N_TYPE, v == 1 ? 7 : v - 1u, 0, v);
+        call.states.at[v] = v % 2 == 1 ? HIGH : LOW;
+    }
+    return call;
+}
+
+/* What a run leaves at its limit is what as many single steps of the library leave. */
+static void ring_at(uint32_t limit, uint32_t steps, struct dice *dice)
+{
+    uint8_t left[8];
+    struct call call = ring_of_seven(ENTRY_UNIT_RUN);
+    call.limit = limit;
+    expect_count(&call, OSCILLATES, steps, dice);
+    memcpy(left, call.states.at, sizeof left);
+
+    uint32_t answer[4];
+    call = ring_of_seven(ENTRY_STEP);
+    for (uint32_t k = 0; k < steps; k++)
+        door_ask(&call, answer);
+    if (memcmp(left, call.states.at, sizeof left) != 0)
+        door_difference("a run at its limit does not leave what single steps leave");
 }
 
 /* ---- long chains ---- */
@@ -198,6 +248,28 @@ static void inverter_chain(size_t nodes, struct dice *dice)
     door_now_checking("full", ++tried, "");
     network_random_work(&call, dice);
     door_try(&call, &wanted);
+}
+
+/* A limit of 0 stands for 1,000 steps: rows of inverters that need fewer, that
+   many or more, and a ring. */
+static void default_limit(struct dice *dice)
+{
+    static const struct {
+        size_t stages;
+        uint32_t limit, number, count;
+    } rows[] = {
+        {300, 0, DONE, 300},   {300, 100, OSCILLATES, 100}, {999, 0, DONE, 999},
+        {1000, 0, DONE, 1000}, {1001, 0, OSCILLATES, 1000}, {1001, 1001, DONE, 1001},
+    };
+    for (size_t k = 0; k < sizeof rows / sizeof *rows; k++) {
+        struct call call = inverters(rows[k].stages + 2);
+        network_change(&call, 1, HIGH);
+        call.limit = rows[k].limit;
+        expect_count(&call, rows[k].number, rows[k].count, dice);
+    }
+    ring_at(0, DEFAULT_LIMIT, dice);
+    ring_at(100, 100, dice);
+    ring_at(999, 999, dice);
 }
 
 /* Nodes joined in a row by transistors of the one type, listed from the near
@@ -378,6 +450,7 @@ void check_full_size(const struct options *options)
             change_lists(entry, &dice);
     }
     limits(&dice);
+    default_limit(&dice);
     inverter_chain(12, &dice);
     inverter_chain(102, &dice);
     inverter_chain(1002, &dice);

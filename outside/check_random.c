@@ -28,8 +28,8 @@ static uint32_t random_limit(struct dice *dice)
     case 1: return 1;
     case 2: return 2;
     case 3: return 3;
-    case 4: return 100;
-    case 5: return dice_below(dice, 200) == 0 ? 10000 : 99;
+    case 4: return dice_below(dice, 2) == 0 ? 100 : 1000;
+    case 5: return dice_below(dice, 200) == 0 ? 10000 : 999;
     default: return dice_below(dice, 12);
     }
 }

@@ -10,7 +10,7 @@ _Static_assert(TWISTDORY_N == 0 && TWISTDORY_P == 1 && TWISTDORY_D == 2, "types"
 _Static_assert(TWISTDORY_MIN_NODES == 1 && TWISTDORY_MAX_NODES == 4096, "nodes");
 _Static_assert(TWISTDORY_MAX_TRANSISTORS == 8192, "transistors");
 _Static_assert(TWISTDORY_MAX_CHANGES == 4096, "changes");
-_Static_assert(TWISTDORY_DEFAULT_LIMIT == 100 && TWISTDORY_MAX_LIMIT == 10000, "limit");
+_Static_assert(TWISTDORY_DEFAULT_LIMIT == 1000 && TWISTDORY_MAX_LIMIT == 10000, "limit");
 _Static_assert(TWISTDORY_WORK_CELLS(4096, 8192) == 32768 && TWISTDORY_WORK_CELLS(3, 1) == 14,
                "work area");
 _Static_assert(TWISTDORY_ANSWER == 0 && TWISTDORY_PLACE == 1 && TWISTDORY_FIRST_COUNT == 2

@@ -7,7 +7,7 @@ NORMAL, PULLUP, INPUT = KINDS = 0, 1, 2
 LOW, HIGH, X = STATES = 0, 1, 2
 N, P, D = TYPES = 0, 1, 2
 DONE, SIZE, LIMIT, KIND, WIRE, STATE, CHANGE, START, OSCILLATES = range(9)
-DEFAULT_LIMIT = 100
+DEFAULT_LIMIT = 1000
 
 # ---- How a transistor stands, and one unit step ----
 

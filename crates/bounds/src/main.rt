@@ -1,5 +1,5 @@
 // Both sides of each bound, through the library's entries. A line a call: the entry and what is lent, in numbers, as the title above it says,
-// then answer, place, first count and second count. First the lengths, at full size, then what the tables hold.
+// then answer, place, first count and second count. First the lengths, at full size, then what the tables hold, then the default limit.
 use bench::Large;
 use model::Answer;
 use trials::Entry;
@@ -15,8 +15,8 @@ const I: u8 = 2;
 // The type of a transistor that is always closed.
 const D: u8 = 2;
 
-// Calls an entry with so many kinds, states, types, gates and ends, changes and work cells of a large network: its nodes in one state, and changes
-// of the first nodes to one new state.
+// Calls an entry with the front of a large network: so many kinds, states, types, gates and ends, changes and work cells. All nodes are in one
+// state, and the changes are of the first nodes to one new state.
 fn lend(
     entry: Entry,
     net: Large,
@@ -91,7 +91,7 @@ fn contents(entry: Entry, kind: u8, ty: u8, gate: u16, state: u8, c: usize, new:
     lines::show_row(&lent, answer);
 }
 
-// A line of a unit run of inverters in a row, all at 0 and their input too: each is right one step after the one before it.
+// A line of a unit run of inverters in a row, from 0 everywhere: the inverter at stage k has its last state after k steps and not before.
 fn inverters(stages: usize, limit: u32)
     requires { ⌜ stages ≤ 1001 ⌝ }
 {
@@ -170,7 +170,7 @@ fn contents_of_runs() {
     contents(Entry::Unit, I, 0, 0, 0, 1, 3, 1);
 }
 
-// Each stage takes a step. A limit of 0 stands for 1,000 steps, and a limit of 100 for 100.
+// A limit of 0 stands for 1,000 steps, a limit of 100 for 100; a row of as many stages as its limit settles.
 fn default_limit() {
     inverters(300, 0);
     inverters(300, 100);
