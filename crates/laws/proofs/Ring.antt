@@ -1,5 +1,5 @@
--- The bench set's ring never settles: whatever the limit, its unit run is OSCILLATES with the limit in force, and leaves the states after exactly
--- that many steps. Assumes nothing.
+-- The bench set's ring never settles: at every limit that is accepted its unit run is OSCILLATES with the limit in force, and leaves the states
+-- after exactly that many steps. Assumes nothing.
 use Prim.Native.Nat.{ℕ, zero, suc, _≤_}
 use native.Mathlib.Omega.{arith}
 use mathlib.Core.Path.{_≡_, refl, ap, sym, _∙_}
@@ -10,13 +10,12 @@ use borrow.Author.Tests.{le-ltb}
 use Rattle.model.specs.Bounds.{highestLimit}
 use Rattle.model.specs.Places.{iter, at}
 use Rattle.model.specs.Net.{stands, linked, spread, joined, strength, setState, new, step}
-use Rattle.model.specs.Run.{Changes, changesOf, limitOf}
-use Rattle.model.specs.Rules.{judge, cells, wireTests, changeTests, stepSizes, runSizes, runRules, unitRules}
+use Rattle.model.specs.Run.{changesOf, limitOf}
+use Rattle.model.specs.Rules.{cells, wireTests, changeTests, stepSizes, runSizes, runRules, unitRules}
 use Rattle.model.specs.Entries.{Outcome, unitOutcome}
 use Rattle.model.specs.Demands.{Clean}
 use Rattle.model.specs.Bench.{RING}
 use Rattle.model.specs.declared.Answer.the-variants.{Oscillates}
-use Rattle.model.specs.declared.Verdict.the-variants.{Accepted}
 use Rattle.laws.proofs.Judged.{clean}
 use Rattle.laws.proofs.Demands.{unit-at-limit, unit-at-limit-when}
 
@@ -40,15 +39,15 @@ unsettled zero b e = turned b (sym (turns b) ∙ e)
 unsettled (suc k) b e = unsettled k (not b) (rw (turns b) at e)
 
 -- the unit run of the ring from 0, without changes
-abbrev pub rung : ℕ → List ℕ → Outcome
-rung limit w = unitOutcome RING (ring false) (changesOf [] []) limit w
+abbrev pub ringRun : ℕ → List ℕ → Outcome
+ringRun limit w = unitOutcome RING (ring false) (changesOf [] []) limit w
 
 module _ (limit : ℕ) (w : List ℕ) (low : limit ≤ highestLimit) (long : cells RING ≤ length w) where
   accepted : Clean (unitRules RING (ring false) (changesOf [] []) limit w)
   unfolding wireTests changeTests stepSizes runSizes runRules unitRules
   accepted = clean (unitRules RING (ring false) (changesOf [] []) limit w) (rw (le-ltb (length w) (cells RING) long, le-ltb highestLimit limit low))
 
-  pub ring-at-limit : (rung limit w .answer ≡ Oscillates (limitOf limit)) × (rung limit w .states ≡ iter (limitOf limit) (step RING) (ring false))
+  pub ring-at-limit : (ringRun limit w .answer ≡ Oscillates (limitOf limit)) × (ringRun limit w .states ≡ iter (limitOf limit) (step RING) (ring false))
   ring-at-limit =
       let never = unit-at-limit-when RING (ring false) (changesOf [] []) limit w accepted (λ k l. unsettled k false) in
       let end = unit-at-limit RING (ring false) (changesOf [] []) limit w never in
@@ -56,8 +55,8 @@ module _ (limit : ℕ) (w : List ℕ) (low : limit ≤ highestLimit) (long : cel
 
 -- limit 0 stands for 1,000, and 100 for itself
 module _ (w : List ℕ) (long : cells RING ≤ length w) where
-  pub ring-at-0 : (rung 0 w .answer ≡ Oscillates 1000) × (rung 0 w .states ≡ iter 1000 (step RING) (ring false))
+  pub ring-at-0 : (ringRun 0 w .answer ≡ Oscillates 1000) × (ringRun 0 w .states ≡ iter 1000 (step RING) (ring false))
   ring-at-0 = ring-at-limit 0 w (omega arith) long
 
-  pub ring-at-100 : (rung 100 w .answer ≡ Oscillates 100) × (rung 100 w .states ≡ iter 100 (step RING) (ring false))
+  pub ring-at-100 : (ringRun 100 w .answer ≡ Oscillates 100) × (ringRun 100 w .states ≡ iter 100 (step RING) (ring false))
   ring-at-100 = ring-at-limit 100 w (omega arith) long
