@@ -228,10 +228,22 @@ static bool settle(brute_stepper *step, struct call *call, uint32_t limit, uint3
     }
 }
 
+/* The lowest node whose state differs, looked for from the top down; the number
+   of nodes if there is none. */
+static uint32_t first_changed(const uint8_t *before, const uint8_t *after, size_t nodes)
+{
+    size_t lowest = nodes;
+    for (size_t v = nodes; v-- > 0;)
+        if (before[v] != after[v])
+            lowest = v;
+    return (uint32_t)lowest;
+}
+
 static void one_step(brute_stepper *step, struct call *call, uint32_t answer[4])
 {
     uint8_t after[MOST_NODES];
     step(call, call->states.at, after);
+    answer[1] = first_changed(call->states.at, after, call->kinds.length);
     for (size_t v = 0; v < call->kinds.length; v++)
         if (call->states.at[v] != after[v])
             answer[2]++;
@@ -247,8 +259,12 @@ static void enter_changes(struct call *call)
 static void unit_run(brute_stepper *step, struct call *call, uint32_t answer[4])
 {
     enter_changes(call);
-    if (!settle(step, call, call->limit == 0 ? DEFAULT_LIMIT : call->limit, &answer[2]))
-        answer[0] = OSCILLATES;
+    if (settle(step, call, call->limit == 0 ? DEFAULT_LIMIT : call->limit, &answer[2]))
+        return;
+    uint8_t after[MOST_NODES]; /* one more step, which is not kept */
+    step(call, call->states.at, after);
+    answer[0] = OSCILLATES;
+    answer[1] = first_changed(call->states.at, after, call->kinds.length);
 }
 
 static void ternary_run(brute_stepper *step, struct call *call, uint32_t answer[4])

@@ -138,8 +138,8 @@ static void one_network(uint64_t seed, uint64_t number)
     call.entry = ENTRY_TERNARY_RUN;
     if (!door_ask(&call, answer))
         return;
-    if (answer[0] != 0)
-        door_difference("a ternary run from a settled start is not done");
+    if (answer[0] != 0 || answer[1] != 0)
+        door_difference("a ternary run from a settled start is not done, with place 0");
     else if (answer[2] > nodes - inputs || answer[3] > nodes - inputs)
         door_difference("a half takes more steps than there are nodes that are not inputs");
     counts.doubted += memchr(call.states.at, UNKNOWN, nodes) != NULL;

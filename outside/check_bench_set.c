@@ -85,7 +85,7 @@ static const struct {
     {inv, ENTRY_TERNARY_RUN, 0, "010", "10", "0 0 1 1 001"},
     {pass, ENTRY_UNIT_RUN, 0, "010", "01", "0 0 1 0 1XX"},
     {pass, ENTRY_UNIT_RUN, 0, "011", "0X", "0 0 0 0 X11"},
-    {ring, ENTRY_UNIT_RUN, 4, "00", "", "8 0 4 0 00"},
+    {ring, ENTRY_UNIT_RUN, 4, "00", "", "8 1 4 0 00"},
     {ring, ENTRY_TERNARY_RUN, 0, "00", "", "7 0 0 0 00"},
     {inv, ENTRY_UNIT_RUN, 0, "0XX", "1111", "6 1 0 0 0XX"},
     {fence, ENTRY_UNIT_RUN, 0, "X011", "", "0 0 1 0 XX11"},

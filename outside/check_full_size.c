@@ -36,10 +36,18 @@ static uint32_t expect(struct call *call, uint32_t number, uint32_t place, brute
     return answer[2];
 }
 
-/* The same of a unit run, with the count that is wanted. */
-static void expect_count(struct call *call, uint32_t number, uint32_t count, struct dice *dice)
+/* DONE where no state is altered: a step has the number of nodes as its place. */
+static void expect_still(struct call *call, struct dice *dice)
 {
-    if (expect(call, number, 0, brute_step, dice) != count)
+    uint32_t place = call->entry == ENTRY_STEP ? (uint32_t)call->kinds.length : 0;
+    expect(call, DONE, place, brute_step, dice);
+}
+
+/* A unit run's answer, with the count that is wanted. */
+static void expect_count(struct call *call, uint32_t number, uint32_t place, uint32_t count,
+                         struct dice *dice)
+{
+    if (expect(call, number, place, brute_step, dice) != count)
         door_difference("brute force does not give the count wanted");
 }
 
@@ -60,11 +68,11 @@ static struct call plain_call(enum entry entry, size_t nodes, size_t transistors
 static void lengths_of_one_entry(enum entry entry, struct dice *dice)
 {
     struct call call = plain_call(entry, 1, 0, INPUT);
-    expect(&call, DONE, 0, brute_step, dice);
+    expect_still(&call, dice);
     call = plain_call(entry, 0, 0, INPUT);
     expect(&call, SIZE, 0, brute_step, dice);
     call = plain_call(entry, MOST_NODES, MOST_TRANSISTORS, NORMAL);
-    expect(&call, DONE, 0, brute_step, dice);
+    expect_still(&call, dice);
     call = plain_call(entry, MOST_NODES + 1, MOST_TRANSISTORS, NORMAL);
     expect(&call, SIZE, 0, brute_step, dice);
     if (entry_takes_transistors(entry)) {
@@ -78,9 +86,9 @@ static void lengths_of_one_entry(enum entry entry, struct dice *dice)
             call.work.length -= 1;
             expect(&call, SIZE, 0, brute_step, dice);
             call.work.length += 2;
-            expect(&call, DONE, 0, brute_step, dice);
+            expect_still(&call, dice);
             call.work.length = 65537;
-            expect(&call, DONE, 0, brute_step, dice);
+            expect_still(&call, dice);
         }
         call = plain_call(entry, 1, 0, NORMAL);
         call.work.length = 0;
@@ -109,7 +117,7 @@ static void last_places(enum entry entry, struct dice *dice)
             ends[k][MOST_TRANSISTORS - 1] = ends[k][MOST_TRANSISTORS - back] = MOST_NODES;
             expect(&call, WIRE, MOST_TRANSISTORS - back, brute_step, dice);
             ends[k][MOST_TRANSISTORS - 1] = ends[k][MOST_TRANSISTORS - back] = MOST_NODES - 1;
-            expect(&call, DONE, 0, brute_step, dice);
+            expect_still(&call, dice);
         }
         if (!entry_takes_work(entry))
             continue;
@@ -120,7 +128,7 @@ static void last_places(enum entry entry, struct dice *dice)
     if (entry_takes_transistors(entry)) {
         struct call call = plain_call(entry, 3, 1, NORMAL);
         call.gates.at[0] = 2;
-        expect(&call, DONE, 0, brute_step, dice);
+        expect_still(&call, dice);
         call.gates.at[0] = 3;
         expect(&call, WIRE, 0, brute_step, dice);
     }
@@ -149,12 +157,32 @@ static void change_lists(enum entry entry, struct dice *dice)
     expect(&call, CHANGE, MOST_NODES - 1, brute_step, dice);
 }
 
-/* A loop that never settles: a pullup that shorts itself to ground. */
-static struct call loop(uint32_t limit)
+/* The first changed node of a step at both ends of the largest table: pullups at
+   1 but for two of them, or one, or none. */
+static void first_changed_nodes(struct dice *dice)
 {
-    struct call call = plain_call(ENTRY_UNIT_RUN, 2, 1, INPUT);
-    call.kinds.at[1] = PULLUP;
-    network_transistor(&call, 0, N_TYPE, 1, 0, 1);
+    static const size_t low[][2] = {{0, 0}, {0, 1}, {1, MOST_NODES - 1}, {MOST_NODES - 2, MOST_NODES - 1},
+                                    {MOST_NODES - 1, MOST_NODES - 1}};
+    for (size_t k = 0; k < sizeof low / sizeof *low; k++) {
+        struct call call = plain_call(ENTRY_STEP, MOST_NODES, 0, PULLUP);
+        memset(call.states.at, HIGH, MOST_NODES);
+        call.states.at[low[k][0]] = call.states.at[low[k][1]] = LOW;
+        if (expect(&call, DONE, (uint32_t)low[k][0], brute_step, dice) != 1 + (low[k][0] < low[k][1]))
+            door_difference("brute force does not give the count wanted");
+    }
+    struct call call = plain_call(ENTRY_STEP, MOST_NODES, 0, PULLUP);
+    memset(call.states.at, HIGH, MOST_NODES);
+    expect_still(&call, dice);
+}
+
+/* A loop that never settles: a pullup that shorts itself to ground. It is the
+   last of the nodes, and the others are inputs. */
+static struct call loop(uint32_t nodes, uint32_t limit)
+{
+    struct call call = plain_call(ENTRY_UNIT_RUN, nodes, 1, INPUT);
+    uint16_t last = (uint16_t)(nodes - 1);
+    call.kinds.at[last] = PULLUP;
+    network_transistor(&call, 0, N_TYPE, last, 0, last);
     call.limit = limit;
     return call;
 }
@@ -164,15 +192,17 @@ static void limits(struct dice *dice)
     static const uint32_t accepted[] = {1, 99, 100, 101, 999, 1000, 1001, 9999, 10000};
     static const uint32_t refused[] = {10001, 65536, 65636, 66536, 0x7fffffff, UINT32_MAX};
     for (size_t k = 0; k < sizeof accepted / sizeof *accepted; k++) {
-        struct call call = loop(accepted[k]);
-        expect_count(&call, OSCILLATES, accepted[k], dice);
+        struct call call = loop(2, accepted[k]);
+        expect_count(&call, OSCILLATES, 1, accepted[k], dice);
     }
     for (size_t k = 0; k < sizeof refused / sizeof *refused; k++) {
-        struct call call = loop(refused[k]);
-        expect_count(&call, LIMIT, 0, dice);
+        struct call call = loop(2, refused[k]);
+        expect_count(&call, LIMIT, 0, 0, dice);
     }
-    struct call call = loop(0);
-    expect_count(&call, OSCILLATES, DEFAULT_LIMIT, dice);
+    struct call call = loop(2, 0);
+    expect_count(&call, OSCILLATES, 1, DEFAULT_LIMIT, dice);
+    call = loop(MOST_NODES, 9);
+    expect_count(&call, OSCILLATES, MOST_NODES - 1, 9, dice);
 }
 
 /* Seven inverters in a ring, one of them out of step with its neighbour: they
@@ -189,19 +219,24 @@ static struct call ring_of_seven(enum entry entry)
     return call;
 }
 
-/* What a run leaves at its limit is what as many single steps of the library leave. */
+/* What a run leaves at its limit is what as many single steps of the library
+   leave. The change goes round node by node: each step names the node that it
+   has come to, and the run names the one that the next step would change. */
 static void ring_at(uint32_t limit, uint32_t steps, struct dice *dice)
 {
     uint8_t left[8];
     struct call call = ring_of_seven(ENTRY_UNIT_RUN);
     call.limit = limit;
-    expect_count(&call, OSCILLATES, steps, dice);
+    expect_count(&call, OSCILLATES, 1 + steps % 7, steps, dice);
     memcpy(left, call.states.at, sizeof left);
 
-    uint32_t answer[4];
+    uint32_t answer[4] = {0};
     call = ring_of_seven(ENTRY_STEP);
-    for (uint32_t k = 0; k < steps; k++)
+    for (uint32_t k = 0; k < steps; k++) {
         door_ask(&call, answer);
+        if (answer[1] != 1 + k % 7)
+            door_difference("a step does not name the node that the change has come to");
+    }
     if (memcmp(left, call.states.at, sizeof left) != 0)
         door_difference("a run at its limit does not leave what single steps leave");
 }
@@ -229,7 +264,10 @@ static void inverter_chain(size_t nodes, struct dice *dice)
         struct call call = inverters(nodes);
         network_change(&call, 1, HIGH);
         call.limit = (uint32_t)((int32_t)steps + around[k]);
-        expect(&call, around[k] < 0 ? OSCILLATES : DONE, 0, brute_step, dice);
+        if (around[k] < 0)
+            expect(&call, OSCILLATES, (uint32_t)nodes - 1, brute_step, dice);
+        else
+            expect(&call, DONE, 0, brute_step, dice);
     }
     struct call call = inverters(nodes);
     network_change(&call, 1, HIGH);
@@ -265,7 +303,9 @@ static void default_limit(struct dice *dice)
         struct call call = inverters(rows[k].stages + 2);
         network_change(&call, 1, HIGH);
         call.limit = rows[k].limit;
-        expect_count(&call, rows[k].number, rows[k].count, dice);
+        /* after so many steps the change is at that inverter's output; the next one follows */
+        uint32_t place = rows[k].number == DONE ? 0 : rows[k].count + 2;
+        expect_count(&call, rows[k].number, place, rows[k].count, dice);
     }
     ring_at(0, DEFAULT_LIMIT, dice);
     ring_at(100, 100, dice);
@@ -299,14 +339,14 @@ static void pass_chains(size_t nodes, struct dice *dice)
     for (int order = 0; order < 3; order++)
         for (uint8_t type = N_TYPE; type <= D_TYPE; type++) {
             struct call call = pass_chain(nodes, type, order, dice);
-            expect(&call, DONE, 0, brute_step, dice);
+            expect(&call, DONE, 2, brute_step, dice);
             /* one unknown transistor somewhere: X beyond it, or not */
             call = pass_chain(nodes, type, order, dice);
             size_t doubted = dice_below(dice, (uint32_t)call.types.length);
             network_transistor(&call, doubted, N_TYPE, (uint16_t)(nodes - 1),
                                call.sources.at[doubted], call.drains.at[doubted]);
             call.states.at[nodes - 1] = UNKNOWN;
-            expect(&call, DONE, 0, brute_step, dice);
+            expect(&call, DONE, 2, brute_step, dice);
             /* a pullup in the row, and the driving transistor shut */
             call = pass_chain(nodes, type, order, dice);
             call.kinds.at[nodes / 2] = PULLUP;
@@ -314,7 +354,7 @@ static void pass_chains(size_t nodes, struct dice *dice)
             for (size_t i = 0; i < call.types.length; i++)
                 if (call.sources.at[i] == 0)
                     network_transistor(&call, i, N_TYPE, 0, 0, call.drains.at[i]);
-            expect(&call, DONE, 0, brute_step, dice);
+            expect(&call, DONE, 2, brute_step, dice);
         }
 }
 
@@ -449,6 +489,7 @@ void check_full_size(const struct options *options)
         if (entry_takes_changes(entry))
             change_lists(entry, &dice);
     }
+    first_changed_nodes(&dice);
     limits(&dice);
     default_limit(&dice);
     inverter_chain(12, &dice);

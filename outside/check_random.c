@@ -1,6 +1,7 @@
 /*
    Random networks of up to 8 nodes and 12 transistors: a check, a reset, steps,
-   unit runs and ternary runs, from random states and from settled ones. Each
+   unit runs and ternary runs, from random states and from settled ones; a step
+   more from where a run stopped at its limit, which must name its node. Each
    step and run is made a second time with the transistors listed in another
    order, some ends swapped and some transistors listed twice: nothing that is
    answered or left may differ.
@@ -85,11 +86,11 @@ static void try_otherwise(struct call *other, const struct call *first, const ui
     counts.relisted++;
 }
 
-/* Compares one call from the states `start`; the call then has the states left. */
+/* Compares one call from the states `start`; the call then has the states left.
+   Gives the answer's number. */
 static uint32_t compare_from(struct call *call, struct call *other, enum entry entry,
-                             const uint8_t *start, struct dice *dice)
+                             const uint8_t *start, struct dice *dice, uint32_t answer[4])
 {
-    uint32_t answer[4];
     call->entry = entry;
     memcpy(call->states.at, start, call->states.length);
     network_random_work(call, dice);
@@ -99,16 +100,31 @@ static uint32_t compare_from(struct call *call, struct call *other, enum entry e
     return answer[0];
 }
 
+/* A step from where a run stopped at its limit: it must be done, and name the node
+   that the run named. */
+static void compare_next_step(struct call *call, struct call *other, uint32_t place,
+                              struct dice *dice)
+{
+    uint8_t left[MOST_NODES];
+    uint32_t answer[4];
+    memcpy(left, call->states.at, call->states.length);
+    if (compare_from(call, other, ENTRY_STEP, left, dice, answer) != 0 || answer[1] != place)
+        door_difference("a step from where a run stopped does not name the run's node");
+}
+
 static void compare_runs(struct call *call, struct call *other, const uint8_t *start,
                          struct dice *dice)
 {
+    uint32_t answer[4];
     network_random_changes(call, dice);
     call->limit = random_limit(dice);
-    if (compare_from(call, other, ENTRY_UNIT_RUN, start, dice) == 0)
+    if (compare_from(call, other, ENTRY_UNIT_RUN, start, dice, answer) == 0) {
         counts.unit_done++;
-    else
+    } else {
         counts.unit_oscillates++;
-    if (compare_from(call, other, ENTRY_TERNARY_RUN, start, dice) == 0)
+        compare_next_step(call, other, answer[1], dice);
+    }
+    if (compare_from(call, other, ENTRY_TERNARY_RUN, start, dice, answer) == 0)
         counts.ternary_done++;
     else
         counts.ternary_start++;
@@ -119,13 +135,14 @@ static void compare_runs(struct call *call, struct call *other, const uint8_t *s
 static void find_settled(struct call *call, struct call *other, uint8_t *states,
                          struct dice *dice)
 {
+    uint32_t answer[4];
     call->change_nodes.length = call->change_states.length = 0;
     call->limit = 0;
-    if (compare_from(call, other, ENTRY_UNIT_RUN, states, dice) != 0) {
+    if (compare_from(call, other, ENTRY_UNIT_RUN, states, dice, answer) != 0) {
         for (size_t v = 0; v < call->kinds.length; v++)
             if (call->kinds.at[v] != INPUT)
                 states[v] = UNKNOWN;
-        if (compare_from(call, other, ENTRY_UNIT_RUN, states, dice) != 0)
+        if (compare_from(call, other, ENTRY_UNIT_RUN, states, dice, answer) != 0)
             door_difference("a run from X does not settle");
     }
     memcpy(states, call->states.at, call->states.length);
@@ -147,9 +164,10 @@ static void one_network(const struct options *options, uint64_t number)
     uint8_t states[MOST_NODES];
     memcpy(states, call.states.at, nodes);
 
-    compare_from(&call, &other, ENTRY_CHECK, states, &dice);
-    compare_from(&call, &other, ENTRY_RESET, states, &dice);
-    compare_from(&call, &other, ENTRY_STEP, states, &dice);
+    uint32_t answer[4];
+    compare_from(&call, &other, ENTRY_CHECK, states, &dice, answer);
+    compare_from(&call, &other, ENTRY_RESET, states, &dice, answer);
+    compare_from(&call, &other, ENTRY_STEP, states, &dice, answer);
     compare_runs(&call, &other, states, &dice);
     find_settled(&call, &other, states, &dice);
     compare_runs(&call, &other, states, &dice);

@@ -122,6 +122,15 @@ static void clear_work(uint16_t *work, size_t nodes, size_t transistors)
     memset(work, 0, TWISTDORY_WORK_CELLS(nodes, transistors) * sizeof *work);
 }
 
+/* The lowest node whose state differs, or the number of nodes. */
+static size_t first_changed(const uint8_t *states, const uint8_t *next, size_t nodes)
+{
+    size_t v = 0;
+    while (v < nodes && states[v] == next[v])
+        v++;
+    return v;
+}
+
 /* ---- the five calls ---- */
 
 void twistdory_check(const uint8_t *kinds, size_t kinds_length,
@@ -171,10 +180,11 @@ void twistdory_step(const uint8_t *kinds, size_t kinds_length,
     uint8_t next[TWISTDORY_MAX_NODES];
     struct plain *plain = open_network(kinds, kinds_length, &t);
     size_t differing = plain_step(plain, states, next);
+    size_t place = first_changed(states, next, states_length);
     memcpy(states, next, states_length);
     plain_close(plain);
     clear_work(work, kinds_length, types_length);
-    write_answer(answer, TWISTDORY_DONE, 0, (uint32_t)differing, 0);
+    write_answer(answer, TWISTDORY_DONE, place, (uint32_t)differing, 0);
 }
 
 void twistdory_unit_run(const uint8_t *kinds, size_t kinds_length,
@@ -204,9 +214,12 @@ void twistdory_unit_run(const uint8_t *kinds, size_t kinds_length,
     uint32_t in_force = limit == 0 ? TWISTDORY_DEFAULT_LIMIT : limit, count;
     struct plain *plain = open_network(kinds, kinds_length, &t);
     bool settled = plain_unit_run(plain, states, &changes, in_force, &count);
+    uint8_t next[TWISTDORY_MAX_NODES];
+    plain_step(plain, states, next);
+    size_t place = settled ? 0 : first_changed(states, next, states_length);
     plain_close(plain);
     clear_work(work, kinds_length, types_length);
-    write_answer(answer, settled ? TWISTDORY_DONE : TWISTDORY_OSCILLATES, 0, count, 0);
+    write_answer(answer, settled ? TWISTDORY_DONE : TWISTDORY_OSCILLATES, place, count, 0);
 }
 
 void twistdory_ternary_run(const uint8_t *kinds, size_t kinds_length,

@@ -38,6 +38,15 @@ def p_at_gate_x_open():
     rules.STANDS[rules.P] = kept
 
 
+@contextlib.contextmanager
+def last_changed_node_named():
+    kept, rules.first_changed = rules.first_changed, lambda before, after: max(
+        [node for node in range(len(before)) if before[node] != after[node]], default=len(before)
+    )
+    yield
+    rules.first_changed = kept
+
+
 def answers(drawn):
     """What each entry leaves, a line each; a run that does not settle as it must leaves its own line."""
     lines = []
@@ -70,7 +79,7 @@ def main(file):
     if not notices(kept, kept.replace("left (0 ∷ 0 ∷ 1", "left (0 ∷ 0 ∷ 2", 1)):
         print("a count altered in the kept samples: NOT NOTICED")
         missed += 1
-    for fault in (pullup_weaker_than_charge, joined_through_an_input, p_at_gate_x_open):
+    for fault in (pullup_weaker_than_charge, joined_through_an_input, p_at_gate_x_open, last_changed_node_named):
         with fault():
             lines = differing(bench.lines().splitlines(), choices.BENCH.read_text().splitlines())
             samples = differing(answers(drawn), right)

@@ -162,10 +162,15 @@ def cleared(lent):
     return [0] * used + lent.work[used:]
 
 
+def first_changed(before, after):
+    """The lowest node whose state differs, or the number of nodes."""
+    return min([node for node in range(len(before)) if before[node] != after[node]], default=len(before))
+
+
 def one_step(lent):
     after = step(lent.net, lent.states)
     altered = sum(old != new for old, new in zip(lent.states, after))
-    return Outcome((DONE, 0, altered, 0), after, cleared(lent), [lent.states])
+    return Outcome((DONE, first_changed(lent.states, after), altered, 0), after, cleared(lent), [lent.states])
 
 
 def entered(lent):
@@ -178,7 +183,10 @@ def entered(lent):
 def unit_run(lent):
     limit = lent.limit or DEFAULT_LIMIT
     passed, settled = steps(lent.net, entered(lent), limit)
-    answer = (DONE, 0, len(passed) - 1, 0) if settled else (OSCILLATES, 0, limit, 0)
+    answer = (DONE, 0, len(passed) - 1, 0)
+    if not settled:
+        # the next step, which is not stored
+        answer = (OSCILLATES, first_changed(passed[-1], step(lent.net, passed[-1])), limit, 0)
     return Outcome(answer, passed[-1], cleared(lent), passed)
 
 

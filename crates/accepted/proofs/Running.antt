@@ -15,12 +15,13 @@ use Rattle.basis.specs.Steps.{ruleOne, Stepped, Ended, Halved}
 use Rattle.basis.proofs.Leaving as any-step
 
 module _ (net : Net) (s w w₁ w′ : List ℕ) (same : length w₁ ≡ length w) (used : ℕ) (u : used ≡ cells net) (x : w′ ≡ cleared used w₁) where
-  pub step-leaves : judge (stepRules net s w) ≡ Accepted → {k : ℕ} {s′ : List ℕ} → Stepped (ruleOne net) s w k s′ w₁ → Leaves (stepOutcome net s w) (Done k 0) s′ w′
+  pub step-leaves : judge (stepRules net s w) ≡ Accepted → {p k : ℕ} {s′ : List ℕ} → Stepped (ruleOne net) s w p k s′ w₁ → Leaves (stepOutcome net s w) (Done p k 0) s′ w′
   unfolding stepOutcome
   step-leaves = any-step.step-leaves (ruleOne net) s w w₁ w′ same used u x (stepRules net s w)
 
-  pub unit-leaves : (ch : Changes) (limit : ℕ) → judge (unitRules net s ch limit w) ≡ Accepted → {b : Bool} {k : ℕ} {s′ : List ℕ} → Ended (ruleOne net) (unitSteps (step net) s ch limit) w b k s′ w₁
-      → Leaves (unitOutcome net s ch limit w) (cond b (Done k 0) (Oscillates (limitOf limit))) s′ w′
+  pub unit-leaves : (ch : Changes) (limit : ℕ) → judge (unitRules net s ch limit w) ≡ Accepted → {b : Bool} {p k : ℕ} {s′ : List ℕ}
+      → Ended (ruleOne net) (unitSteps (step net) s ch limit) w b p k s′ w₁
+      → Leaves (unitOutcome net s ch limit w) (cond b (Done 0 k 0) (Oscillates p (limitOf limit))) s′ w′
   unfolding unitOutcome
   unit-leaves ch limit e = any-step.unit-leaves (ruleOne net) s w w₁ w′ same used u x (unitRules net s ch limit w) e ch limit
 
@@ -30,6 +31,6 @@ module _ (net : Net) (s w w₁ w′ : List ℕ) (same : length w₁ ≡ length w
     start-leaves = any-step.start-leaves (ruleOne net) s w w₁ w′ same used u x (ternaryRules net s ch w) e ch
 
     pub ternary-leaves : settled (step net) s ≡ true → {w₀ : List ℕ} → Spared (cells net) w w₀ → {k l : ℕ} {s′ : List ℕ} → Halved (ruleOne net) s ch w₀ k l s′ w₁
-        → Leaves (ternaryOutcome net s ch w) (Done k l) s′ w′
+        → Leaves (ternaryOutcome net s ch w) (Done 0 k l) s′ w′
     unfolding ternaryOutcome
     ternary-leaves = any-step.ternary-leaves (ruleOne net) s w w₁ w′ same used u x (ternaryRules net s ch w) e ch

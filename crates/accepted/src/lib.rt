@@ -9,7 +9,7 @@ ghost use Rattle.model.specs.Rules.{judge, stepRules, unitRules, ternaryRules};
 ghost use Rattle.model.specs.Entries.{stepOutcome, unitOutcome, ternaryOutcome, Leaves};
 ghost use Rattle.model.specs.declared.Verdict.the-variants.{Accepted};
 
-// One step, and how many nodes differ after it.
+// One step; the first node that differs after it, and how many do.
 pub fn take_step(
     kinds: &[u8],
     states: &mut [u8],
@@ -24,22 +24,30 @@ pub fn take_step(
         ⌜ Leaves (stepOutcome net (lent states) (lent work)) r (left states) (left work) ⌝ }
 {
     let used = cells_for(kinds.len(), types.len());
-    let first = runs::step_once(kinds, states, types, gates, sources, drains, work);
+    let moved = runs::step_once(kinds, states, types, gates, sources, drains, work);
     cells::clear(work, used);
-    Answer::Done { first, second: 0 }
+    Answer::Done {
+        place: moved.first,
+        first: moved.count,
+        second: 0,
+    }
 }
 
 // The answer of a run that ended so, within the limit in force.
 fn ran_answer(ran: Ran, limit: u32) -> Answer
-    ensures { λ r. ⌜ r ≡ cond (ran .ends) (Answer.Done (ran .count) 0) (Answer.Oscillates limit) ⌝ }
+    ensures { λ r. ⌜ r ≡ cond (ran .ends) (Answer.Done 0 (ran .count) 0) (Answer.Oscillates (ran .place) limit) ⌝ }
 {
     if ran.ends {
         Answer::Done {
+            place: 0,
             first: ran.count,
             second: 0,
         }
     } else {
-        Answer::Oscillates(limit)
+        Answer::Oscillates {
+            place: ran.place,
+            limit,
+        }
     }
 }
 
@@ -115,6 +123,7 @@ pub fn run_ternary(
     );
     cells::clear(work, used);
     Answer::Done {
+        place: 0,
         first: halves.first,
         second: halves.second,
     }

@@ -9,6 +9,7 @@ pub fn number_of(a: Answer) -> u32
 {
     match a {
         Answer::Done {
+            place: _,
             first: _,
             second: _,
         } => 0,
@@ -19,27 +20,29 @@ pub fn number_of(a: Answer) -> u32
         Answer::State(_) => 5,
         Answer::Change(_) => 6,
         Answer::Start => 7,
-        Answer::Oscillates(_) => 8,
+        Answer::Oscillates { place: _, limit: _ } => 8,
     }
 }
 
-// The node, transistor or entry that a refusal is about, else 0.
+// The node, transistor or entry that a refusal is about; the node that a step changed first, or the number of nodes; the node that the
+// step after OSCILLATES would change first; else 0.
 pub fn place_of(a: Answer) -> u32
     ensures { λ r. ⌜ r ≡ place a ⌝ }
 {
     match a {
+        Answer::Done {
+            place,
+            first: _,
+            second: _,
+        } => place,
         Answer::Kind(p) => p,
         Answer::Wire(p) => p,
         Answer::State(p) => p,
         Answer::Change(p) => p,
-        Answer::Done {
-            first: _,
-            second: _,
-        } => 0,
+        Answer::Oscillates { place, limit: _ } => place,
         Answer::Size => 0,
         Answer::Limit => 0,
         Answer::Start => 0,
-        Answer::Oscillates(_) => 0,
     }
 }
 
@@ -48,8 +51,12 @@ pub fn first_count_of(a: Answer) -> u32
     ensures { λ r. ⌜ r ≡ firstCount a ⌝ }
 {
     match a {
-        Answer::Done { first, second: _ } => first,
-        Answer::Oscillates(limit) => limit,
+        Answer::Done {
+            place: _,
+            first,
+            second: _,
+        } => first,
+        Answer::Oscillates { place: _, limit } => limit,
         Answer::Size => 0,
         Answer::Limit => 0,
         Answer::Kind(_) => 0,
@@ -65,7 +72,11 @@ pub fn second_count_of(a: Answer) -> u32
     ensures { λ r. ⌜ r ≡ secondCount a ⌝ }
 {
     match a {
-        Answer::Done { first: _, second } => second,
+        Answer::Done {
+            place: _,
+            first: _,
+            second,
+        } => second,
         Answer::Size => 0,
         Answer::Limit => 0,
         Answer::Kind(_) => 0,
@@ -73,7 +84,7 @@ pub fn second_count_of(a: Answer) -> u32
         Answer::State(_) => 0,
         Answer::Change(_) => 0,
         Answer::Start => 0,
-        Answer::Oscillates(_) => 0,
+        Answer::Oscillates { place: _, limit: _ } => 0,
     }
 }
 

@@ -1,17 +1,16 @@
 -- What the tests of SIZE say: from tests that all fail, the bounds and the equal lengths. Assumes nothing.
 use Prim.Native.Nat.{ℕ, _≤_}
 use mathlib.Core.Path.{_≡_, refl, ap, _∙_, sym}
-use mathlib.Core.Bool.{Bool, true, false, not, _||_, true≢false}
+use mathlib.Core.Bool.{Bool, true, false, _||_, true≢false}
 use mathlib.Core.List.{List, [], _∷_, _++_}
-use borrow.Author.Tests.{ltb-false, eqb-true, not-false}
-use lib.ListN.{length, getD}
-use lib.Dec.{eqb}
+use borrow.Author.Tests.{ltb-false}
+use lib.ListN.{length}
 use Rattle.model.specs.Bounds.{mostNodes, mostTransistors, mostChanges}
 use Rattle.model.specs.Places.{any}
 use Rattle.model.specs.Net.{Net, nodes, transistors}
 use Rattle.model.specs.Run.{Changes}
 use Rattle.model.specs.Rules.{nodeSizes, stateSizes, wireSizes, workSizes, changeSizes, cells, checkSizes, resetSizes, stepSizes, runSizes}
-use Rattle.laws.proofs.Judged.{any-none}
+use Rattle.laws.proofs.Judged.{any-none, level-at}
 use Rattle.basis.specs.Sound.{Level, Sized, SizedChanges}
 
 any-append : (bs cs : List Bool) → any (bs ++ cs) ≡ (any bs || any cs)
@@ -32,10 +31,6 @@ pub any-apart : (bs cs : List Bool) → any (bs ++ cs) ≡ false → (any bs ≡
 any-apart [] cs e = (refl, e)
 any-apart (true ∷ bs) cs e = absurd (true≢false e)
 any-apart (false ∷ bs) cs e = any-apart bs cs e
-
--- an equal length
-pub level-at : (a b : ℕ) (bs : List Bool) (i : ℕ) → any bs ≡ false → getD bs i false ≡ not (eqb a b) → a ≡ b
-level-at a b bs i e h = eqb-true a b (not-false (eqb a b) (sym h ∙ any-none bs e i))
 
 pub nodes-sized : (kinds : List ℕ) → any (nodeSizes kinds) ≡ false → (1 ≤ length kinds) × (length kinds ≤ mostNodes)
 nodes-sized kinds e = (ltb-false (length kinds) 1 (any-none (nodeSizes kinds) e 0), ltb-false mostNodes (length kinds) (any-none (nodeSizes kinds) e 1))

@@ -36,19 +36,20 @@ module _ (by : Stepping) (s w w₁ w′ : List ℕ) (same : length w₁ ≡ leng
   wiped h = x ∙ ap (λ (k : ℕ). cleared k w₁) u ∙ cleared-spared (by .used) w w₁ same h
 
   -- a step
-  pub step-leaves : (rs : List Rule) → judge rs ≡ Accepted → {k : ℕ} {s′ : List ℕ} → Stepped by s w k s′ w₁ → Leaves (stepUnder rs (by .next) (by .used) s w) (Done k 0) s′ w′
+  pub step-leaves : (rs : List Rule) → judge rs ≡ Accepted → {p k : ℕ} {s′ : List ℕ} → Stepped by s w p k s′ w₁
+      → Leaves (stepUnder rs (by .next) (by .used) s w) (Done p k 0) s′ w′
   step-leaves rs e st =
       leaves-at
       (accepted-gives rs (untouched s w) (stepTaken (by .next) (by .used) s w) Accepted (sym e) refl)
-      (record { answers = ap (λ (j : ℕ). Done j 0) (st .count); states-left = st .states; work-left = wiped (st .spared) })
+      (record { answers = rw (st .place, st .count); states-left = st .states; work-left = wiped (st .spared) })
 
   -- a unit run
-  pub unit-leaves : (rs : List Rule) → judge rs ≡ Accepted → (ch : Changes) (limit : ℕ) {b : Bool} {k : ℕ} {s′ : List ℕ} → Ended by (unitSteps (by .next) s ch limit) w b k s′ w₁
-      → Leaves (unitUnder rs (by .next) (by .used) s ch limit w) (cond b (Done k 0) (Oscillates (limitOf limit))) s′ w′
+  pub unit-leaves : (rs : List Rule) → judge rs ≡ Accepted → (ch : Changes) (limit : ℕ) {b : Bool} {p k : ℕ} {s′ : List ℕ} → Ended by (unitSteps (by .next) s ch limit) w b p k s′ w₁
+      → Leaves (unitUnder rs (by .next) (by .used) s ch limit w) (cond b (Done 0 k 0) (Oscillates p (limitOf limit))) s′ w′
   unit-leaves rs e ch limit en =
       leaves-at
       (accepted-gives rs (untouched s w) (unitRan (by .next) (by .used) s ch limit w) Accepted (sym e) refl)
-      (record { answers = rw (en .ends, en .count) refl; states-left = en .states; work-left = wiped (en .spared) })
+      (record { answers = rw (en .ends, en .place, en .count); states-left = en .states; work-left = wiped (en .spared) })
 
   -- a ternary run after the other rules: START with the states as they came, or both halves
   module _ (rs : List Rule) (e : judge rs ≡ Accepted) (ch : Changes) where
@@ -66,7 +67,7 @@ module _ (by : Stepping) (s w w₁ w′ : List ℕ) (same : length w₁ ≡ leng
         leaves-at (unsettled h ∙ accepted-gives rs (untouched s w) started Accepted (sym e) refl) (record { answers = refl; states-left = refl; work-left = wiped sp })
 
     pub ternary-leaves : settled (by .next) s ≡ true → {w₀ : List ℕ} → Spared (by .used) w w₀ → {k l : ℕ} {s′ : List ℕ} → Halved by s ch w₀ k l s′ w₁
-        → Leaves (ternaryUnder rs (by .size) (by .next) (by .used) s ch w) (Done k l) s′ w′
+        → Leaves (ternaryUnder rs (by .size) (by .next) (by .used) s ch w) (Done 0 k l) s′ w′
     ternary-leaves h sp hv =
         leaves-at (at-rest h ∙ accepted-gives rs (untouched s w) started Accepted (sym e) refl)
         (record { answers = rw (hv .first, hv .second) refl; states-left = hv .states; work-left = wiped (λ i m. hv .spared i m ∙ sp i m) })

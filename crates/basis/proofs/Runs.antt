@@ -20,16 +20,16 @@ limit-high zero h = omega arith
 limit-high (suc limit) h = h
 
 -- steps within the limit in force, from the states with the changes entered
-pub unit-ended : {by : Stepping} {s₁ s′ w w′ : List ℕ} {b : Bool} {k r : ℕ} (s ps vs : List ℕ) (limit : ℕ) → s₁ ≡ put s ps vs → r ≡ limitOf limit → Ended by (settle (by .next) r 0 s₁) w b k s′ w′
-    → Ended by (unitSteps (by .next) s (changesOf ps vs) limit) w b k s′ w′
+pub unit-ended : {by : Stepping} {s₁ s′ w w′ : List ℕ} {b : Bool} {p k r : ℕ} (s ps vs : List ℕ) (limit : ℕ) → s₁ ≡ put s ps vs → r ≡ limitOf limit → Ended by (settle (by .next) r 0 s₁) w b p k s′ w′
+    → Ended by (unitSteps (by .next) s (changesOf ps vs) limit) w b p k s′ w′
 unfolding unitSteps
-unit-ended s ps vs limit p q h = rw (p, q) at h
+unit-ended s ps vs limit e q h = rw (e, q) at h
 
 -- steps from the raised states to a, and from there, with the changes entered, to z
-module _ {by : Stepping} {input : ℕ → Bool} (st : Stepper (by .size) input (by .next)) {a₀ a a₁ z w₀ w₁ w₂ : List ℕ} {b c : Bool} {k l : ℕ} (s ps vs : List ℕ)
+module _ {by : Stepping} {input : ℕ → Bool} (st : Stepper (by .size) input (by .next)) {a₀ a a₁ z w₀ w₁ w₂ : List ℕ} {b c : Bool} {e k g l : ℕ} (s ps vs : List ℕ)
     (q : length vs ≡ length ps) (E : Enterable (by .size) input (changesOf ps vs)) (sized : length s ≡ by .size) (long : length a ≡ length s)
-    (p₀ : a₀ ≡ raised s (put s ps vs)) (h₁ : Ended by (settle (by .next) (by .size) 0 a₀) w₀ b k a w₁)
-    (p₁ : a₁ ≡ put a ps vs) (h₂ : Ended by (settle (by .next) (by .size) 0 a₁) w₁ c l z w₂) where
+    (p₀ : a₀ ≡ raised s (put s ps vs)) (h₁ : Ended by (settle (by .next) (by .size) 0 a₀) w₀ b e k a w₁)
+    (p₁ : a₁ ≡ put a ps vs) (h₂ : Ended by (settle (by .next) (by .size) 0 a₁) w₁ c g l z w₂) where
   abbrev n : ℕ
   n = by .size
 

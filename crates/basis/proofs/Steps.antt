@@ -1,25 +1,25 @@
--- Steps of any kind until settled, one at a time: what an evaluated step says, when nothing is altered, when the limit is reached, and one more. Assumes nothing.
+-- Steps of any kind until settled, one at a time: what an evaluated step says, when nothing is changed, when the limit is reached, and one more. Assumes nothing.
 use Prim.Native.Nat.{ℕ, zero, suc, _+_, _-_, _<_}
 use native.Mathlib.Omega.{arith}
 use native.Mathlib.Numerals.{add-one}
 use mathlib.Core.Path.{_≡_, refl, sym, ap, _∙_}
-use mathlib.Core.Bool.{Bool, true, false, not}
+use mathlib.Core.Bool.{Bool, true, false, not, false≢true}
+use mathlib.Core.Logic.{_⊎_, inl, inr}
 use mathlib.Core.List.{List}
 use lib.ListN.{length}
 use lib.Seq.{ext-getD}
 use lib.Dec.{eqb}
-use borrow.Author.Tests.{eq-eqb, ne-eqb}
 use Rattle.model.specs.Places.{tab, at}
 use Rattle.model.specs.Net.{Net}
-use Rattle.model.specs.Run.{Ran, settled, settle}
-use Rattle.model.specs.Entries.{altered}
+use Rattle.model.specs.Run.{Ran, changed, settled, settle}
+use Rattle.model.specs.Entries.{altered, firstChanged}
 use Rattle.model.specs.Cover.{Stepper}
-use Rattle.laws.proofs.Places.{length-tab, getD-tab}
+use Rattle.laws.proofs.Places.{length-tab, getD-tab, first-same}
 use Rattle.laws.proofs.Descent.{count-same}
 use Rattle.laws.proofs.RuleOne.{stepper}
 use Rattle.basis.specs.Cells.{Spared}
 use Rattle.basis.specs.Steps.{Stepping, ruleOne, Evaluated, Ended}
-use Rattle.basis.proofs.Altered.{same-count}
+use Rattle.basis.proofs.Altered.{same-first}
 
 -- a step leaves as many states as there are nodes
 abbrev pub StepSized : Stepping → Type 0
@@ -56,14 +56,27 @@ module _ (f : List ℕ → List ℕ) where
 
 module _ {by : Stepping} where
   ended-as : {run : Ran} {w w′ s : List ℕ} {b : Bool} {k : ℕ} → run ≡ record { ends = b; count = k; states = s } → Spared (by .used) w w′
-      → Ended by run w b k s w′
-  ended-as e r = record { ends = sym (ap (λ (x : Ran). x .ends) e); count = sym (ap (λ (x : Ran). x .count) e); states = sym (ap (λ (x : Ran). x .states) e); spared = r }
+      → {p : ℕ} → p ≡ firstChanged s (by .next s) → Ended by run w b p k s w′
+  ended-as e r q = record {
+    ends = sym (ap (λ (x : Ran). x .ends) e);
+    place = q ∙ sym (ap (λ (x : Ran). firstChanged (x .states) (by .next (x .states))) e);
+    count = sym (ap (λ (x : Ran). x .count) e);
+    states = sym (ap (λ (x : Ran). x .states) e);
+    spared = r;
+  }
 
-  -- one evaluated step says how many nodes the step alters, and the states after it
+  -- one evaluated step says which nodes the step changes, the first and how many, and the states after it
   module _ {s w w′ : List ℕ} (E : Evaluated by s w w′) (long : length s ≡ by .size) where
+    evaluated-changed : (v : ℕ) → v < length s → changed s w′ v ≡ changed s (by .next s) v
+    evaluated-changed v l = ap (λ (x : ℕ). not (eqb (at s v) x)) (E .next v (omega arith))
+
+    pub evaluated-place : firstChanged s w′ ≡ firstChanged s (by .next s)
+    unfolding firstChanged
+    evaluated-place = first-same (length s) (changed s w′) (changed s (by .next s)) evaluated-changed
+
     pub evaluated-count : altered s w′ ≡ altered s (by .next s)
     unfolding altered
-    evaluated-count = count-same (length s) _ _ (λ v l. ap (λ (x : ℕ). not (eqb x (at s v))) (E .next v (omega arith)))
+    evaluated-count = count-same (length s) (changed s w′) (changed s (by .next s)) evaluated-changed
 
     module _ (sized : StepSized by) where
       pub evaluated-states : tab (length s) (at w′) ≡ by .next s
@@ -71,21 +84,24 @@ module _ {by : Stepping} where
           ext-getD 0 (tab (length s) (at w′)) (by .next s) (length-tab (length s) (at w′) ∙ long ∙ sym (sized s))
           (λ v l. let h = length-tab (length s) (at w′) in getD-tab (length s) (at w′) 0 v (omega arith) ∙ E .next v (omega arith))
 
-      -- where k nodes differ, in steps of which `count` were taken and `limit` are allowed
-      module _ {k : ℕ} (c : k ≡ altered s w′) where
-        pub settled-test : eqb k 0 ≡ settled (by .next) s
-        settled-test = ap (λ (n : ℕ). eqb n 0) (c ∙ evaluated-count) ∙ same-count s (by .next s) (sized s ∙ sym long)
+      -- where p is the first node that the step changes, in steps of which `count` were taken and `limit` are allowed
+      module _ {p : ℕ} (c : p ≡ firstChanged s w′) where
+        pub settled-test : eqb p (length s) ≡ settled (by .next) s
+        settled-test = ap (λ (v : ℕ). eqb v (length s)) (c ∙ evaluated-place) ∙ same-first s (by .next s) (sized s ∙ sym long)
 
         module _ {count : ℕ} (limit : ℕ) where
-          pub ends : {run : Ran} {w₀ : List ℕ} → run ≡ settle (by .next) (limit - count) count s → Spared (by .used) w₀ w → k ≡ 0 → Ended by run w₀ true count s w′
-          ends i r z = ended-as (i ∙ settle-ends (by .next) (limit - count) count s (sym settled-test ∙ eq-eqb k 0 z)) (λ j l. E .after j l ∙ r j l)
+          -- they stop where the state is settled, and at the limit; else they go on
+          pub stops : {run : Ran} {w₀ : List ℕ} → run ≡ settle (by .next) (limit - count) count s → Spared (by .used) w₀ w → (eqb p (length s) ≡ true) ⊎ (count ≡ limit)
+              → Ended by run w₀ (eqb p (length s)) p count s w′
+          stops {run} {w₀} i r = go (eqb p (length s)) refl
+            where
+              go : (b : Bool) → eqb p (length s) ≡ b → (b ≡ true) ⊎ (count ≡ limit) → Ended by run w₀ b p count s w′
+              go true e h = ended-as (i ∙ settle-ends (by .next) (limit - count) count s (sym settled-test ∙ e)) (λ j l. E .after j l ∙ r j l) (c ∙ evaluated-place)
+              go false e (inl h) = absurd (false≢true h)
+              go false e (inr h) = ended-as (i ∙ settle-stops (by .next) (limit - count) count s (omega arith) (sym settled-test ∙ e)) (λ j l. E .after j l ∙ r j l) (c ∙ evaluated-place)
 
-          pub stops : {run : Ran} {w₀ : List ℕ} → run ≡ settle (by .next) (limit - count) count s → Spared (by .used) w₀ w → (k ≡ 0 → ⊥) → count ≡ limit
-              → Ended by run w₀ false count s w′
-          stops i r z e = ended-as (i ∙ settle-stops (by .next) (limit - count) count s (omega arith) (sym settled-test ∙ ne-eqb k 0 z)) (λ j l. E .after j l ∙ r j l)
-
-          pub goes : {x : Ran} → x ≡ settle (by .next) (limit - count) count s → (k ≡ 0 → ⊥) → count < limit → {s′ : List ℕ} → s′ ≡ tab (length s) (at w′)
+          pub goes : {x : Ran} → x ≡ settle (by .next) (limit - count) count s → eqb p (length s) ≡ false → count < limit → {s′ : List ℕ} → s′ ≡ tab (length s) (at w′)
               → x ≡ settle (by .next) (limit - (count + 1)) (count + 1) s′
           goes i z e q =
-              i ∙ settle-goes (by .next) (limit - count) (limit - (count + 1)) count s (omega arith) (sym settled-test ∙ ne-eqb k 0 z)
+              i ∙ settle-goes (by .next) (limit - count) (limit - (count + 1)) count s (omega arith) (sym settled-test ∙ z)
               ∙ ap (settle (by .next) (limit - (count + 1)) (count + 1)) (sym (q ∙ evaluated-states))

@@ -7,7 +7,7 @@ use Rattle.model.specs.Places.{at}
 use Rattle.model.specs.Net.{Net, nodes, step}
 use Rattle.model.specs.Run.{Changes, Ran, settled, firstHalf, secondHalf}
 use Rattle.model.specs.Rules.{cells}
-use Rattle.model.specs.Entries.{altered}
+use Rattle.model.specs.Entries.{altered, firstChanged}
 use Rattle.basis.specs.Cells.{Spared}
 
 -- a way of stepping: of how many nodes, in how many work cells, and the states after a step
@@ -27,8 +27,9 @@ module _ (by : Stepping) where
     pub small : (v : ℕ) → v < by .size → at w′ v ≤ 255
     pub after : Spared (by .used) w w′
 
-  -- a step was taken: how many nodes it altered, and the states after it
-  pub record Stepped (s w : List ℕ) (k : ℕ) (s′ w′ : List ℕ) : Type 0 where
+  -- a step was taken: the first node that it changed, how many it changed, and the states after it
+  pub record Stepped (s w : List ℕ) (p k : ℕ) (s′ w′ : List ℕ) : Type 0 where
+    pub place : p ≡ firstChanged s (by .next s)
     pub count : k ≡ altered s (by .next s)
     pub states : s′ ≡ by .next s
     pub spared : Spared (by .used) w w′
@@ -38,9 +39,10 @@ module _ (by : Stepping) where
     pub tells : b ≡ settled (by .next) s
     pub spared : Spared (by .used) w w′
 
-  -- steps ended as the definition's run does: settled or not, after how many, in which states
-  pub record Ended (run : Ran) (w : List ℕ) (b : Bool) (k : ℕ) (s′ w′ : List ℕ) : Type 0 where
+  -- steps ended as the definition's run does: settled or not, after how many, in which states; and the first node that the next step would change
+  pub record Ended (run : Ran) (w : List ℕ) (b : Bool) (p k : ℕ) (s′ w′ : List ℕ) : Type 0 where
     pub ends : b ≡ run .ends
+    pub place : p ≡ firstChanged (run .states) (by .next (run .states))
     pub count : k ≡ run .count
     pub states : s′ ≡ run .states
     pub spared : Spared (by .used) w w′

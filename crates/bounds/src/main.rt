@@ -154,6 +154,12 @@ fn contents_of_tables() {
     contents(Entry::Step, N, 0, 0, 3, 0, 0, 0);
 }
 
+// A step's place is the first node that it changes, and where it changes none the number of nodes: pullups at 0, and at 1.
+fn first_changed() {
+    contents(Entry::Step, P, 0, 0, 0, 0, 0, 0);
+    contents(Entry::Step, P, 0, 0, 1, 0, 0, 0);
+}
+
 // The limit ends at 10,000, and a run may end exactly at its limit. A ternary run needs a settled start: a pullup at 0 is none. Of the changes,
 // the first is of an input, also to the state that it has, the second of no input, the fourth of no node; new states end at 2.
 fn contents_of_runs() {
@@ -170,7 +176,8 @@ fn contents_of_runs() {
     contents(Entry::Unit, I, 0, 0, 0, 1, 3, 1);
 }
 
-// A limit of 0 stands for 1,000 steps, a limit of 100 for 100; a row of as many stages as its limit settles.
+// A limit of 0 stands for 1,000 steps, a limit of 100 for 100; a row of as many stages as its limit settles. A longer one is still moving from
+// the stage on that comes next.
 fn default_limit() {
     inverters(300, 0);
     inverters(300, 100);
@@ -193,6 +200,7 @@ fn main() {
         b"entry kind type gate state changes new limit: answer place count count\n",
     );
     contents_of_tables();
+    first_changed();
     contents_of_runs();
     io::write_all(1, b"entry stages limit: answer place count count\n");
     default_limit();

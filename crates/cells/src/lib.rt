@@ -8,7 +8,7 @@ ghost use Rattle.model.specs.Places.{tab, at};
 ghost use Rattle.model.specs.Bounds.{mostNodes};
 ghost use Rattle.model.specs.Run.{entered, raised};
 ghost use Rattle.model.specs.Lent.{changesNow, lent, left, lentChanges};
-ghost use Rattle.model.specs.Entries.{altered, cleared};
+ghost use Rattle.model.specs.Entries.{altered, firstChanged, cleared};
 ghost use Rattle.basis.specs.Sound.{Named, Once};
 ghost use Rattle.basis.specs.Cells.{Written, Bytes};
 
@@ -79,17 +79,32 @@ pub fn raise_changed(states: &mut [u8], nodes: &[u16], news: &[u8])
     }
 }
 
-// 1 where a node's next state differs from its state, else 0.
-fn differs(next: u16, state: u8) -> u32
-    ensures { λ r. ⌜ r ≡ cond (not (eqb next state)) 1 0 ⌝ }
+// The first node that the evaluated step changes, or the number of nodes where it changes none: then the states are settled.
+pub fn first_changed(states: &[u8], work: &[u16]) -> u32
+    requires { ⌜ (length (now states) ≤ length (now work)) × (length (now states) ≤ mostNodes) ⌝ }
+    ensures { λ r. ⌜ r ≡ firstChanged (lent states) (lent work) ⌝ }
 {
-    if next == state as u16 {
+    let mut node = 0;
+    while node < states.len() {
+        if states[node] as u16 != work[node] {
+            return node as u32;
+        }
+        node += 1;
+    }
+    node as u32
+}
+
+// 1 where a node's next state differs from its state, else 0.
+fn differs(state: u8, next: u16) -> u32
+    ensures { λ r. ⌜ r ≡ cond (not (eqb state next)) 1 0 ⌝ }
+{
+    if state as u16 == next {
         return 0;
     }
     1
 }
 
-// How many nodes the evaluated step alters.
+// How many nodes the evaluated step changes.
 pub fn differing(states: &[u8], work: &[u16]) -> u32
     requires { ⌜ (length (now states) ≤ length (now work)) × (length (now states) ≤ mostNodes) ⌝ }
     ensures { λ r. ⌜ r ≡ altered (lent states) (lent work) ⌝ }
@@ -97,7 +112,7 @@ pub fn differing(states: &[u8], work: &[u16]) -> u32
     let mut k = 0;
     let mut node = 0;
     while node < states.len() {
-        k += differs(work[node], states[node]);
+        k += differs(states[node], work[node]);
         node += 1;
     }
     k

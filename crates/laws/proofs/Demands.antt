@@ -3,30 +3,28 @@ use Prim.Native.Nat.{ℕ, _≤_, _<_}
 use native.Mathlib.Omega.{arith}
 use mathlib.Core.Path.{_≡_, refl, ap, sym, subst}
 use mathlib.Core.Bool.{true}
-use mathlib.Core.Logic.{_⊎_, inl}
+use mathlib.Core.Logic.{_⊎_, _↔_, inl}
 use mathlib.Core.List.{List, [], _∷_, _++_}
 use lib.ListN.{length}
-use lib.Dec.{eqb}
-use borrow.Author.Tests.{eqb-true, not-false}
 use Rattle.model.specs.Places.{tab, iter, at}
 use Rattle.model.specs.Net.{Net, nodes, isInput, step}
 use Rattle.model.specs.Run.{Changes, entered, changed, limitOf}
-use Rattle.model.specs.Answer.{number, firstCount, secondCount}
+use Rattle.model.specs.Answer.{number, place, firstCount, secondCount}
 use Rattle.model.specs.Rules.{Rule, judge, given, cells, startRule, checkRules, resetRules, stepSizes, stepRules, runSizes, runRules, unitRules, ternaryRules}
-use Rattle.model.specs.Entries.{Outcome, untouched, cleared, stepTaken, unitRan, ternaryRan, checkAnswer, resetOutcome, stepOutcome, unitOutcome, ternaryOutcome}
+use Rattle.model.specs.Entries.{Outcome, untouched, firstChanged, cleared, stepTaken, unitRan, ternaryRan, checkAnswer, resetOutcome, stepOutcome, unitOutcome, ternaryOutcome}
 use Rattle.model.specs.Order.{_≼_}
 use Rattle.model.specs.Cover.{OneByOne}
-use Rattle.model.specs.Demands.{Clean, Told, Lowest, Enterable, Settles, Unsettled, Covered}
+use Rattle.model.specs.Demands.{Clean, Told, Lowest, Enterable, Settles, Unsettled, FirstMoved, Covered}
 use Rattle.model.specs.declared.Answer.{Answer}
 use Rattle.model.specs.declared.Answer.the-variants.{Done, Oscillates}
 use Rattle.model.specs.declared.Verdict.{Verdict}
 use Rattle.model.specs.declared.Verdict.the-variants.{Accepted, Refused}
 use Rattle.laws.proofs.Agreed.{below-bit}
-use Rattle.laws.proofs.Judged.{Numbers, none, also, Numbered, numbered, sorted, broken-number, any-none, judged-lowest, judge-append}
+use Rattle.laws.proofs.Judged.{Numbers, none, also, Numbered, numbered, sorted, broken-number, level-at, judged-lowest, judge-append}
 use Rattle.laws.proofs.Cover.{one-reach}
 use Rattle.laws.proofs.Changes.{clean-changes}
 use Rattle.laws.proofs.RuleOne.{stepper}
-use Rattle.laws.proofs.Outcomes.{told, by-verdict, step-refused, step-done, unit-refused, unit-ran, unit-done, unit-oscillates, unit-done-when, unit-oscillates-when, ternary-refused, ternary-start, ternary-ran, ternary-done, ternary-done-when, ternary-start-when, ternary-above}
+use Rattle.laws.proofs.Outcomes.{told, by-verdict, accepts, step-refused, step-done, step-moved, step-at-rest, unit-refused, unit-ran, unit-done, unit-done-place, unit-oscillates, unit-next-moved, unit-done-when, unit-oscillates-when, ternary-refused, ternary-start, ternary-ran, ternary-done, ternary-done-when, ternary-start-when, ternary-above}
 
 -- the answer of what is judged is what judging the answers gives
 answer-of : (rs : List Rule) (refuse : Answer → Outcome) (accept : Outcome) → ((a : Answer) → refuse a .answer ≡ a) → given (judge rs) refuse accept .answer ≡ given (judge rs) (λ a. a) (accept .answer)
@@ -38,9 +36,9 @@ answer-of rs refuse accept h = go (judge rs)
 
 -- Check. "The lowest number that applies is given", exactly when its row says, at the first place
 module _ (net : Net) where
-  pub check-told : Told (checkRules net) (λ a. a) (Done 0 0) (checkAnswer net)
+  pub check-told : Told (checkRules net) (λ a. a) (Done 0 0 0) (checkAnswer net)
   unfolding checkAnswer
-  check-told = told (checkRules net) (λ a. a) (Done 0 0)
+  check-told = told (checkRules net) (λ a. a) (Done 0 0 0)
 
   check-numbers : Numbers (1 ∷ 3 ∷ 4 ∷ []) (checkRules net)
   unfolding checkRules
@@ -48,12 +46,12 @@ module _ (net : Net) where
 
   pub check-lowest : Lowest (checkRules net) (checkAnswer net)
   unfolding checkAnswer
-  check-lowest = judged-lowest 1 (checkRules net) (Done 0 0) (sorted 1 check-numbers refl)
+  check-lowest = judged-lowest 1 (checkRules net) (Done 0 0 0) (sorted 1 check-numbers refl)
 
 -- Reset
 module _ (kinds s : List ℕ) where
   abbrev pub resetDone : Outcome
-  resetDone = record { answer = Done 0 0; states = tab (length s) (λ v. 2); work = [] }
+  resetDone = record { answer = Done 0 0 0; states = tab (length s) (λ v. 2); work = [] }
 
   pub reset-told : Told (resetRules kinds s) (untouched s []) resetDone (resetOutcome kinds s)
   unfolding resetOutcome
@@ -104,9 +102,26 @@ module _ (net : Net) (s w : List ℕ) where
   step-untouched = step-refused (stepRules net s w) step-numbered (step net) (cells net) s w
 
   -- "One unit step": its states, and the number of nodes whose state differs after it
-  pub step-takes : number (stepOutcome net s w .answer) ≡ 0 → stepOutcome net s w ≡ stepDone
+  pub step-takes : number (stepOutcome net s w .answer) ≡ 0 → Clean (stepRules net s w) × (stepOutcome net s w ≡ stepDone)
   unfolding stepOutcome
   step-takes = step-done (stepRules net s w) step-numbered (step net) (cells net) s w
+
+  pub step-takes-when : Clean (stepRules net s w) → stepOutcome net s w ≡ stepDone
+  unfolding stepOutcome
+  step-takes-when = accepts (stepRules net s w) (untouched s w) stepDone
+
+  step-size : Clean (stepRules net s w) → length s ≡ nodes net
+  unfolding stepRules stepSizes
+  step-size c = level-at (length s) (nodes net) (stepSizes net s w) 2 (c .0 0 (omega arith)) refl
+
+  -- "Its place is the lowest-numbered changed node, or the node count if none changed"
+  pub step-names : number (stepOutcome net s w .answer) ≡ 0 → (step net s ≡ s → ⊥) → FirstMoved (nodes net) (isInput net) (step net) s (place (stepOutcome net s w .answer))
+  unfolding stepOutcome
+  step-names = step-moved (stepRules net s w) step-numbered (step net) (cells net) s w (nodes net) (isInput net) (stepper net) step-size
+
+  pub step-rests : number (stepOutcome net s w .answer) ≡ 0 → (place (stepOutcome net s w .answer) ≡ nodes net) ↔ (step net s ≡ s)
+  unfolding stepOutcome
+  step-rests = step-at-rest (stepRules net s w) step-numbered (step net) (cells net) s w (nodes net) (isInput net) (stepper net) step-size
 
   pub step-lowest : Lowest (stepRules net s w) (stepOutcome net s w .answer)
   unfolding stepOutcome
@@ -141,6 +156,10 @@ module _ (net : Net) (s : List ℕ) (ch : Changes) (limit : ℕ) (w : List ℕ) 
   unfolding unitOutcome
   unit-untouched l h = unit-refused (unitRules net s ch limit w) unit-numbered (step net) (cells net) s ch limit w l (λ e. omega arith)
 
+  unit-size : Clean (unitRules net s ch limit w) → length s ≡ nodes net
+  unfolding unitRules runSizes stepSizes
+  unit-size c = level-at (length s) (nodes net) (runSizes net s ch w) 2 (c .0 0 (omega arith)) refl
+
   -- "A unit run repeats the step until nothing moves": the count is the least that settles
   pub unit-settles : number (unitOutcome net s ch limit w .answer) ≡ 0
       → Settles (step net) (limitOf limit) (entered s ch) (firstCount (unitOutcome net s ch limit w .answer)) (unitOutcome net s ch limit w .states)
@@ -149,9 +168,20 @@ module _ (net : Net) (s : List ℕ) (ch : Changes) (limit : ℕ) (w : List ℕ) 
 
   -- "A run stopped at its step limit leaves the states after exactly that many steps"
   pub unit-at-limit : number (unitOutcome net s ch limit w .answer) ≡ 8
-      → (unitOutcome net s ch limit w .answer ≡ Oscillates (limitOf limit)) × Unsettled (step net) (limitOf limit) (entered s ch) (unitOutcome net s ch limit w .states)
+      → (unitOutcome net s ch limit w .answer ≡ Oscillates (firstChanged (unitOutcome net s ch limit w .states) (step net (unitOutcome net s ch limit w .states))) (limitOf limit))
+      × Unsettled (step net) (limitOf limit) (entered s ch) (unitOutcome net s ch limit w .states)
   unfolding unitOutcome
   unit-at-limit = unit-oscillates (unitRules net s ch limit w) unit-numbered (step net) (cells net) s ch limit w
+
+  -- "OSCILLATES [has] the lowest node that the next step, which isn't stored, would change"; a run's DONE has place 0
+  pub unit-names : number (unitOutcome net s ch limit w .answer) ≡ 8
+      → FirstMoved (nodes net) (isInput net) (step net) (unitOutcome net s ch limit w .states) (place (unitOutcome net s ch limit w .answer))
+  unfolding unitOutcome
+  unit-names = unit-next-moved (unitRules net s ch limit w) unit-numbered (step net) (cells net) s ch limit w (nodes net) (isInput net) (stepper net) unit-size
+
+  pub unit-names-none : number (unitOutcome net s ch limit w .answer) ≡ 0 → place (unitOutcome net s ch limit w .answer) ≡ 0
+  unfolding unitOutcome
+  unit-names-none = unit-done-place (unitRules net s ch limit w) unit-numbered (step net) (cells net) s ch limit w
 
   -- "The work area's contents are fixed too"
   pub unit-runs : (number (unitOutcome net s ch limit w .answer) ≡ 0) ⊎ (number (unitOutcome net s ch limit w .answer) ≡ 8)
@@ -225,9 +255,12 @@ module _ (net : Net) (s : List ℕ) (ch : Changes) (w : List ℕ) where
   unfolding ternaryOutcome
   ternary-runs = ternary-ran (ternaryRules net s ch w) ternary-numbered (nodes net) (isInput net) (step net) (cells net) s ch w
 
+  pub ternary-names-none : number (ternaryOutcome net s ch w .answer) ≡ 0 → place (ternaryOutcome net s ch w .answer) ≡ 0
+  ternary-names-none e = ap (λ (o : Outcome). place (o .answer)) (ternary-runs e .2)
+
   clean-size : Clean (ternaryRules net s ch w) → length s ≡ nodes net
   unfolding ternaryRules runSizes stepSizes
-  clean-size c = eqb-true _ _ (not-false (eqb (length s) (nodes net)) (any-none (runSizes net s ch w) (c .0 0 (omega arith)) 2))
+  clean-size c = level-at (length s) (nodes net) (runSizes net s ch w) 2 (c .0 0 (omega arith)) refl
 
   clean-enters : Clean (ternaryRules net s ch w) → Enterable (nodes net) (isInput net) ch
   unfolding ternaryRules runRules

@@ -49,17 +49,6 @@ pub count-suc : (n : ℕ) (p : ℕ → Bool) → count (suc n) p ≡ count n p +
 count-suc zero p = omega arith
 count-suc (suc n) p = omega (arith, count-suc n (λ i. p (suc i)))
 
-pub count-never : (n : ℕ) (p : ℕ → Bool) → ((i : ℕ) → i < n → p i ≡ false) → count n p ≡ 0
-count-never zero p h = refl
-count-never (suc n) p h = omega (arith, ap {B = ℕ} (λ (b : Bool). cond b 1 0) (h zero (omega arith)), count-never n (λ i. p (suc i)) (λ i l. h (suc i) (omega arith)))
-
-pub never-count : (n : ℕ) (p : ℕ → Bool) → count n p ≡ 0 → (i : ℕ) → i < n → p i ≡ false
-never-count n p e i l = go (p i) refl
-  where
-    go : (b : Bool) → p i ≡ b → p i ≡ false
-    go true q = absurd (omega (arith, count-lt n (λ j. false) p (λ j m f. absurd (false≢true f)) i l refl q))
-    go false q = q
-
 -- two tables of one length are equal, or differ at a place
 abbrev pub Differ : ℕ → List ℕ → List ℕ → Type 0
 Differ n s t = (i : ℕ) × (i < n) × (at s i ≡ at t i → ⊥)

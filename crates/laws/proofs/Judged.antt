@@ -8,7 +8,7 @@ use mathlib.Core.Bool.{Bool, true, false, not, _&&_, true≢false, and-eq-true-i
 use mathlib.Core.List.{List, [], _∷_, _++_}
 use lib.ListN.{getD}
 use lib.Dec.{eqb, ltb, leb}
-use borrow.Author.Tests.{eqb-false, ltb-true, ltb-false, leb-true, not-true}
+use borrow.Author.Tests.{eqb-true, eqb-false, ltb-true, ltb-false, leb-true, not-true, not-false}
 use Rattle.model.specs.Places.{any, first}
 use Rattle.model.specs.Answer.{number}
 use Rattle.model.specs.Rules.{Rule, judge, given}
@@ -154,6 +154,10 @@ any-none [] e i = refl
 any-none (true ∷ bs) e i = absurd (true≢false e)
 any-none (false ∷ bs) e zero = refl
 any-none (false ∷ bs) e (suc i) = any-none bs e i
+
+-- and where that one says that two lengths differ, they are equal
+pub level-at : (a b : ℕ) (bs : List Bool) (i : ℕ) → any bs ≡ false → getD bs i false ≡ not (eqb a b) → a ≡ b
+level-at a b bs i e h = eqb-true a b (not-false (eqb a b) (sym h ∙ any-none bs e i))
 
 -- each rule has one number, and they rise from n on
 abbrev pub Sorted : ℕ → List Rule → Type 0

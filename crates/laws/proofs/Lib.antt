@@ -12,8 +12,10 @@ pub mod RuleOne
 pub mod Ternary
 pub mod Judged
 pub mod Changes
+pub mod Moved
 pub mod Outcomes
 pub mod Demands
 pub mod Alike
 pub mod OrderFree
 pub mod Ring
+pub mod Onward

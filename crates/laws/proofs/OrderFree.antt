@@ -7,22 +7,22 @@ use mathlib.Core.Logic.{_⊎_, inl, inr}
 use mathlib.Core.Bool.{Bool, true, false, not, true≢false}
 use mathlib.Core.List.{List, [], _∷_}
 use lib.ListN.{length}
-use lib.Dec.{eqb, ltb}
-use borrow.Author.Tests.{ltb-true, ltb-false, eqb-true, not-false}
+use lib.Dec.{ltb}
+use borrow.Author.Tests.{ltb-true, ltb-false}
 use Rattle.model.specs.Bounds.{highestType}
 use Rattle.model.specs.Places.{at, any, first}
 use Rattle.model.specs.Net.{Net, nodes, isInput, step}
 use Rattle.model.specs.Run.{Changes, Ran, entered, settle, limitOf, raised, lowered, unitSteps, firstHalf, secondHalf}
 use Rattle.model.specs.Answer.{number}
 use Rattle.model.specs.Rules.{Rule, judge, given, judged, cells, sizeRule, limitRule, kindRule, wireRule, stateRule, changeRule, startRule, wireTests, changeTests, checkSizes, checkRules, stepSizes, stepRules, runSizes, runRules, unitRules, ternaryRules}
-use Rattle.model.specs.Entries.{Outcome, untouched, altered, cleared, ranAnswer, ternaryStarted, checkAnswer, stepOutcome, unitOutcome, ternaryOutcome}
+use Rattle.model.specs.Entries.{Outcome, untouched, altered, firstChanged, cleared, ranAnswer, ternaryStarted, checkAnswer, stepOutcome, unitOutcome, ternaryOutcome}
 use Rattle.model.specs.Demands.{Clean, Enterable}
 use Rattle.model.specs.Alike.{Copy, Held, Alike, Listed, SameAnswer, SameRun}
 use Rattle.model.specs.declared.Answer.{Answer}
 use Rattle.model.specs.declared.Answer.the-variants.{Done, Size}
 use Rattle.model.specs.declared.Verdict.{Verdict}
 use Rattle.model.specs.declared.Verdict.the-variants.{Accepted, Refused}
-use Rattle.laws.proofs.Judged.{first-says, any-none}
+use Rattle.laws.proofs.Judged.{first-says, level-at}
 use Rattle.laws.proofs.Changes.{clean-changes, entered-listed}
 use Rattle.laws.proofs.Alike.{other, over-kinds, step-alike}
 use Rattle.laws.proofs.Demands.{stepDone, unitEnd, unit-runs, ternaryEnd, ternary-runs}
@@ -123,7 +123,7 @@ fits answer tests rs refuse accept one h q l = go (any tests) refl
 
 fits-check : (net : Net) → (number (checkAnswer net) ≡ 1 → ⊥) → Unbroken (sizeRule (checkSizes net))
 unfolding checkAnswer checkRules
-fits-check net = fits (λ (a : Answer). a) (checkSizes net) (kindRule (net .kinds) ∷ wireRule net ∷ []) (λ a. a) (Done 0 0) refl
+fits-check net = fits (λ (a : Answer). a) (checkSizes net) (kindRule (net .kinds) ∷ wireRule net ∷ []) (λ a. a) (Done 0 0 0) refl
 
 fits-step : (net : Net) (s w : List ℕ) → (number (stepOutcome net s w .answer) ≡ 1 → ⊥) → Unbroken (sizeRule (stepSizes net s w))
 unfolding stepOutcome stepRules
@@ -194,7 +194,7 @@ module _ (net : Net) (ts gs ss ds : List ℕ) (there : Held net (other net ts gs
       (same-verdict (checkRules net) (checkRules twin)
       (inr (inr (fits-check net h, fits-check twin k)), (inl refl, (inr (inl wires), tt))))
     where
-      go : (v u : Verdict) → SameVerdict v u → SameAnswer (given v (λ a. a) (Done 0 0)) (given u (λ a. a) (Done 0 0))
+      go : (v u : Verdict) → SameVerdict v u → SameAnswer (given v (λ a. a) (Done 0 0 0)) (given u (λ a. a) (Done 0 0 0))
       go Accepted Accepted m = inl refl
       go Accepted (Refused b) m = absurd m
       go (Refused a) Accepted m = absurd m
@@ -207,7 +207,7 @@ module _ (net : Net) (ts gs ss ds : List ℕ) (there : Held net (other net ts gs
       (same-verdict (stepRules net s w) (stepRules twin s x)
       (inr (inr (fits-step net s w h, fits-step twin s x k)), (inl refl, (inr (inl wires), (inl refl, tt)))))
       s w x (stepDone net s w) (stepDone twin s x)
-      (record { answers = inl (ap (λ (f : List ℕ → List ℕ). Done (altered s (f s)) 0) same-step); states = ap (λ (f : List ℕ → List ℕ). f s) same-step })
+      (record { answers = inl (ap (λ (f : List ℕ → List ℕ). Done (firstChanged s (f s)) (altered s (f s)) 0) same-step); states = ap (λ (f : List ℕ → List ℕ). f s) same-step })
 
   unit-same : (s : List ℕ) (ch : Changes) (limit : ℕ) (w x : List ℕ) → (number (unitOutcome net s ch limit w .answer) ≡ 1 → ⊥) → (number (unitOutcome twin s ch limit x .answer) ≡ 1 → ⊥)
       → SameRun (unitOutcome net s ch limit w) (unitOutcome twin s ch limit x)
@@ -218,7 +218,7 @@ module _ (net : Net) (ts gs ss ds : List ℕ) (there : Held net (other net ts gs
       (inr (inr (fits-unit net s ch limit w h, fits-unit twin s ch limit x k)), (inl refl, run-pairs s ch)))
       s w x (unitEnd net s ch limit w) (unitEnd twin s ch limit x)
       (record {
-        answers = inl (ap (λ (f : List ℕ → List ℕ). ranAnswer (unitSteps f s ch limit) (limitOf limit)) same-step);
+        answers = inl (ap (λ (f : List ℕ → List ℕ). ranAnswer f (unitSteps f s ch limit) (limitOf limit)) same-step);
         states = ap (λ (f : List ℕ → List ℕ). (unitSteps f s ch limit) .states) same-step;
       })
 
@@ -233,7 +233,7 @@ module _ (net : Net) (ts gs ss ds : List ℕ) (there : Held net (other net ts gs
       (same-run (judge (startRule (step net) s ∷ [])) (judge (startRule (step twin) s ∷ []))
       (same-verdict (startRule (step net) s ∷ []) (startRule (step twin) s ∷ []) (inl (ap (λ (f : List ℕ → List ℕ). startRule f s) same-step), tt)) s (cleared (cells net) w) (cleared (cells twin) x) (ternaryEnd net s ch w) (ternaryEnd twin s ch x)
       (record {
-        answers = inl (ap (λ (f : List ℕ → List ℕ). Done ((firstHalf (nodes net) f s ch) .count) ((secondHalf (nodes net) f s ch) .count)) same-step);
+        answers = inl (ap (λ (f : List ℕ → List ℕ). Done 0 ((firstHalf (nodes net) f s ch) .count) ((secondHalf (nodes net) f s ch) .count)) same-step);
         states = ap (λ (f : List ℕ → List ℕ). (secondHalf (nodes net) f s ch) .states) same-step;
       }))
 
@@ -270,8 +270,8 @@ module _ (net : Net) (s : List ℕ) (ch changes : Changes) (there : Listed ch ch
   sized : (c : Changes) (w : List ℕ) → any (runSizes net s c w) ≡ false → Unbroken (changeRule net c) → Sized c
   unfolding runSizes stepSizes
   sized c w h k = (
-    eqb-true _ _ (not-false (eqb (length s) (nodes net)) (any-none (runSizes net s c w) h 2)),
-    eqb-true _ _ (not-false (eqb (length (c .values)) (length (c .places))) (any-none (runSizes net s c w) h 8)),
+    level-at (length s) (nodes net) (runSizes net s c w) 2 h refl,
+    level-at (length (c .values)) (length (c .places)) (runSizes net s c w) 8 h refl,
     clean-changes net c k,
   )
 
@@ -289,7 +289,7 @@ module _ (net : Net) (s : List ℕ) (ch changes : Changes) (there : Listed ch ch
       same : unitEnd net s ch limit w ≡ unitEnd net s changes limit w
       same =
           unfold unitSteps in
-          ap (λ (to : List ℕ). let r = settle (step net) (limitOf limit) 0 to in record { answer = ranAnswer r (limitOf limit); states = r .states; work = cleared (cells net) w })
+          ap (λ (to : List ℕ). let r = settle (step net) (limitOf limit) 0 to in record { answer = ranAnswer (step net) r (limitOf limit); states = r .states; work = cleared (cells net) w })
           (enter-same (clean ch (unit-runs net s ch limit w h .0)) (clean changes (unit-runs net s changes limit w k .0)))
 
   -- a ternary run that is DONE
@@ -309,5 +309,5 @@ module _ (net : Net) (s : List ℕ) (ch changes : Changes) (there : Listed ch ch
       same : ternaryEnd net s ch w ≡ ternaryEnd net s changes w
       same =
           unfold firstHalf secondHalf in
-          ap (λ (to : List ℕ). record { answer = Done (half to .count) (half′ to .count); states = half′ to .states; work = cleared (cells net) w })
+          ap (λ (to : List ℕ). record { answer = Done 0 (half to .count) (half′ to .count); states = half′ to .states; work = cleared (cells net) w })
           (enter-same (clean ch (ternary-runs net s ch w h .0)) (clean changes (ternary-runs net s changes w k .0)))

@@ -1,30 +1,32 @@
 -- What the outcome of a step, a unit run and a ternary run promises, under any rules and of any step: a refusal touches nothing; counts are the least;
--- the end is settled, or that of exactly the limit's steps; a ternary end covers. Assumes nothing.
+-- the end is settled, or that of exactly the limit's steps; a place names the first node that a step changes; a ternary end covers. Assumes nothing.
 use Prim.Native.Nat.{ℕ, _≤_, _<_}
 use native.Mathlib.Omega.{arith}
-use mathlib.Core.Path.{_≡_, refl, ap, _∙_}
-use mathlib.Core.Logic.{_⊎_, inl, inr}
+use mathlib.Core.Path.{_≡_, refl, ap, _∙_, subst}
+use mathlib.Core.Logic.{_⊎_, inl, inr, _↔_}
 use mathlib.Core.Bool.{Bool, true, false, not, cond}
 use mathlib.Core.List.{List, [], _∷_}
 use lib.ListN.{length}
 use borrow.Author.Tests.{not-false, not-true, lt-ltb, le-ltb}
 use Rattle.model.specs.Places.{iter, same, at}
 use Rattle.model.specs.Run.{Changes, Ran, entered, settled, limitOf, unitSteps, firstHalf, secondHalf}
-use Rattle.model.specs.Answer.{number, firstCount, secondCount}
+use Rattle.model.specs.Answer.{number, place, firstCount, secondCount}
 use Rattle.model.specs.Rules.{Rule, judge, given, judged, startRule}
-use Rattle.model.specs.Entries.{Outcome, untouched, cleared, ranAnswer, stepTaken, unitRan, ternaryRan, ternaryStarted, stepUnder, unitUnder, ternaryUnder}
+use Rattle.model.specs.Entries.{Outcome, untouched, firstChanged, cleared, stepTaken, unitRan, ternaryRan, ternaryStarted, stepUnder, unitUnder, ternaryUnder}
 use Rattle.model.specs.Order.{_≼_}
 use Rattle.model.specs.Cover.{Stepper}
-use Rattle.model.specs.Demands.{Clean, Broken, Judged, Told, Enterable, Settles, Unsettled, Covered}
+use Rattle.model.specs.Demands.{Clean, Broken, Judged, Told, Enterable, Settles, Unsettled, FirstMoved, Covered}
 use Rattle.model.specs.declared.Answer.{Answer}
 use Rattle.model.specs.declared.Answer.the-variants.{Done, Oscillates}
 use Rattle.model.specs.declared.Verdict.{Verdict}
 use Rattle.model.specs.declared.Verdict.the-variants.{Accepted, Refused}
 use Rattle.laws.proofs.Places.{length-tab, getD-tab}
+use Rattle.laws.proofs.Descent.{iter-keeps}
 use Rattle.laws.proofs.Settle.{same-refl, same-true, same-false, Ended, Stuck, settle-says}
 use Rattle.laws.proofs.Judged.{judge-says, judge-clean, broken-each, Numbered, broken-number}
 use Rattle.laws.proofs.Ternary.{ended-settles, stuck-unsettled, halves-cover, steps-covered}
 use Rattle.laws.proofs.Changes.{length-put, entered-others}
+use Rattle.laws.proofs.Moved.{at-rest, first-moved}
 
 -- to show a fact of what is judged, show it of what is accepted and of what a refusal gives
 pub by-verdict : {A : Type 0} (P : A → Type 0) (rs : List Rule) (refuse : Answer → A) (accept : A) → (Clean rs → P accept) → ((a : Answer) → Broken rs a → P (refuse a))
@@ -65,14 +67,27 @@ module _ (rs : List Rule) (num : Numbered 8 rs) (f : List ℕ → List ℕ) (use
   step-refused =
       by-verdict (λ (o : Outcome). 1 ≤ number (o .answer) → (o .states ≡ s) × (o .work ≡ w)) rs (untouched s w) stepDone (λ c l. absurd (omega arith)) (λ a b l. (refl, refl))
 
-  pub step-done : number (stepUnder rs f used s w .answer) ≡ 0 → stepUnder rs f used s w ≡ stepDone
+  pub step-done : number (stepUnder rs f used s w .answer) ≡ 0 → Clean rs × (stepUnder rs f used s w ≡ stepDone)
   step-done =
-      by-verdict (λ (o : Outcome). number (o .answer) ≡ 0 → o ≡ stepDone) rs (untouched s w) stepDone (λ c l. refl) (λ a b l. absurd (omega (arith, broken-number 8 rs a num b .0)))
+      by-verdict (λ (o : Outcome). number (o .answer) ≡ 0 → Clean rs × (o ≡ stepDone)) rs (untouched s w) stepDone (λ c l. (c, refl))
+      (λ a b l. absurd (omega (arith, broken-number 8 rs a num b .0)))
+
+  -- its place: the first node that it changed; the number of nodes exactly where the state was settled
+  module _ (n : ℕ) (input : ℕ → Bool) (st : Stepper n input f) (sized : Clean rs → length s ≡ n) where
+    pub step-moved : number (stepUnder rs f used s w .answer) ≡ 0 → (f s ≡ s → ⊥) → FirstMoved n input f s (place (stepUnder rs f used s w .answer))
+    step-moved e moves = let r = step-done e in rw (r .1) (first-moved n input f st s (sized (r .0)) moves)
+
+    pub step-at-rest : number (stepUnder rs f used s w .answer) ≡ 0 → (place (stepUnder rs f used s w .answer) ≡ n) ↔ (f s ≡ s)
+    step-at-rest e = let r = step-done e in rw (r .1) (at-rest n input f st s (sized (r .0)))
 
 -- a unit run
 module _ (rs : List Rule) (num : Numbered 8 rs) (f : List ℕ → List ℕ) (used : ℕ) (s : List ℕ) (ch : Changes) (limit : ℕ) (w : List ℕ) where
   abbrev ran : Ran
   ran = unitSteps f s ch limit
+
+  -- the answer, by whether the steps ended settled
+  abbrev answered : Bool → Answer
+  answered b = cond b (Done 0 (ran .count) 0) (Oscillates (firstChanged (ran .states) (f (ran .states))) (limitOf limit))
 
   abbrev unitEnd : Outcome
   unitEnd = unitRan f used s ch limit w
@@ -87,10 +102,10 @@ module _ (rs : List Rule) (num : Numbered 8 rs) (f : List ℕ → List ℕ) (use
   unfolding unitSteps
   says = settle-says f (limitOf limit) 0 (entered s ch)
 
-  not-refusal : 1 ≤ number (ranAnswer ran (limitOf limit)) → (number (ranAnswer ran (limitOf limit)) ≡ 8 → ⊥) → ⊥
+  not-refusal : 1 ≤ number (answered (ran .ends)) → (number (answered (ran .ends)) ≡ 8 → ⊥) → ⊥
   not-refusal = go (ran .ends)
     where
-      go : (b : Bool) → 1 ≤ number (cond b (Done (ran .count) 0) (Oscillates (limitOf limit))) → (number (cond b (Done (ran .count) 0) (Oscillates (limitOf limit))) ≡ 8 → ⊥) → ⊥
+      go : (b : Bool) → 1 ≤ number (answered b) → (number (answered b) ≡ 8 → ⊥) → ⊥
       go true l h = omega arith
       go false l h = h refl
 
@@ -111,30 +126,57 @@ module _ (rs : List Rule) (num : Numbered 8 rs) (f : List ℕ → List ℕ) (use
       by-verdict (λ (o : Outcome). number (o .answer) ≡ 0 → Settles f (limitOf limit) (entered s ch) (firstCount (o .answer)) (o .states)) rs (untouched s w) unitEnd (λ c. go says)
       (λ a b e. absurd (omega (arith, broken-number 8 rs a num b .0)))
     where
-      go : Says → number (ranAnswer ran (limitOf limit)) ≡ 0 → Settles f (limitOf limit) (entered s ch) (firstCount (ranAnswer ran (limitOf limit))) (ran .states)
+      go : Says → number (answered (ran .ends)) ≡ 0 → Settles f (limitOf limit) (entered s ch) (firstCount (answered (ran .ends))) (ran .states)
       go (inl x) e = rw (x .ends) (ended-settles f (limitOf limit) (limitOf limit) (entered s ch) ran x (x .few))
       go (inr x) e = absurd (omega (arith, rw (x .ends) at e))
 
   -- OSCILLATES: no number of steps up to the limit settles, and the states are those after exactly the limit's steps
-  pub unit-oscillates : number (unitRun .answer) ≡ 8 → (unitRun .answer ≡ Oscillates (limitOf limit)) × Unsettled f (limitOf limit) (entered s ch) (unitRun .states)
+  pub unit-oscillates : number (unitRun .answer) ≡ 8
+      → (unitRun .answer ≡ Oscillates (firstChanged (unitRun .states) (f (unitRun .states))) (limitOf limit)) × Unsettled f (limitOf limit) (entered s ch) (unitRun .states)
   unit-oscillates =
-      by-verdict (λ (o : Outcome). number (o .answer) ≡ 8 → (o .answer ≡ Oscillates (limitOf limit)) × Unsettled f (limitOf limit) (entered s ch) (o .states)) rs (untouched s w) unitEnd
+      by-verdict
+      (λ (o : Outcome).
+      number (o .answer) ≡ 8 → (o .answer ≡ Oscillates (firstChanged (o .states) (f (o .states))) (limitOf limit)) × Unsettled f (limitOf limit) (entered s ch) (o .states)) rs (untouched s w) unitEnd
       (λ c. go says) (λ a b e. absurd (omega (arith, broken-number 8 rs a num b .1)))
     where
-      go : Says → number (ranAnswer ran (limitOf limit)) ≡ 8 → (ranAnswer ran (limitOf limit) ≡ Oscillates (limitOf limit)) × Unsettled f (limitOf limit) (entered s ch) (ran .states)
+      go : Says → number (answered (ran .ends)) ≡ 8 → (answered (ran .ends) ≡ answered false) × Unsettled f (limitOf limit) (entered s ch) (ran .states)
       go (inl x) e = absurd (omega (arith, rw (x .ends) at e))
       go (inr x) e = (rw (x .ends), stuck-unsettled f (limitOf limit) (entered s ch) ran x)
+
+  -- DONE has place 0, OSCILLATES the first node that one more step would change
+  pub unit-done-place : number (unitRun .answer) ≡ 0 → place (unitRun .answer) ≡ 0
+  unit-done-place =
+      by-verdict (λ (o : Outcome). number (o .answer) ≡ 0 → place (o .answer) ≡ 0) rs (untouched s w) unitEnd (λ c. go (ran .ends)) (λ a b e. absurd (omega (arith, broken-number 8 rs a num b .0)))
+    where
+      go : (b : Bool) → number (answered b) ≡ 0 → place (answered b) ≡ 0
+      go true e = refl
+      go false e = absurd (omega arith)
+
+  module _ (n : ℕ) (input : ℕ → Bool) (st : Stepper n input f) (sized : Clean rs → length s ≡ n) where
+    pub unit-next-moved : number (unitRun .answer) ≡ 8 → FirstMoved n input f (unitRun .states) (place (unitRun .answer))
+    unit-next-moved e = rw (stopped .0) (first-moved n input f st (unitRun .states) long moves)
+      where
+        stopped : (unitRun .answer ≡ Oscillates (firstChanged (unitRun .states) (f (unitRun .states))) (limitOf limit)) × Unsettled f (limitOf limit) (entered s ch) (unitRun .states)
+        stopped = unit-oscillates e
+
+        long : length (unitRun .states) ≡ n
+        long =
+            ap length (stopped .1 .states)
+            ∙ iter-keeps f (λ (x : List ℕ). length x ≡ n) (λ x l. st .sized x) (limitOf limit) (entered s ch) (length-put s (ch .places) (ch .values) ∙ sized (unit-ran (inr e) .0))
+
+        moves : f (unitRun .states) ≡ unitRun .states → ⊥
+        moves p = stopped .1 .none (limitOf limit) (omega arith) (subst (λ (x : List ℕ). f x ≡ x) (stopped .1 .states) p)
 
   -- and exactly when: some number of steps up to the limit settles, or none does
   pub unit-done-when : Clean rs → (k : ℕ) → k ≤ limitOf limit → f (iter k f (entered s ch)) ≡ iter k f (entered s ch) → number (unitRun .answer) ≡ 0
   unit-done-when c k l fix =
       rw (accepts rs (untouched s w) unitEnd c)
-      (elim says [ inl x ↦ ap (λ (b : Bool). number (cond b (Done (ran .count) 0) (Oscillates (limitOf limit)))) (x .ends) | inr x ↦ absurd (x .none k l fix) ])
+      (elim says [ inl x ↦ ap (λ (b : Bool). number (answered b)) (x .ends) | inr x ↦ absurd (x .none k l fix) ])
 
   pub unit-oscillates-when : Clean rs → ((k : ℕ) → k ≤ limitOf limit → f (iter k f (entered s ch)) ≡ iter k f (entered s ch) → ⊥) → number (unitRun .answer) ≡ 8
   unit-oscillates-when c none =
       rw (accepts rs (untouched s w) unitEnd c)
-      (elim says [ inl x ↦ absurd (none (x .steps) (x .few) (x .fixed)) | inr x ↦ ap (λ (b : Bool). number (cond b (Done (ran .count) 0) (Oscillates (limitOf limit)))) (x .ends) ])
+      (elim says [ inl x ↦ absurd (none (x .steps) (x .few) (x .fixed)) | inr x ↦ ap (λ (b : Bool). number (answered b)) (x .ends) ])
 
 -- a ternary run
 module _ (rs : List Rule) (num : Numbered 7 rs) (n : ℕ) (input : ℕ → Bool) (f : List ℕ → List ℕ) (used : ℕ) (s : List ℕ) (ch : Changes) (w : List ℕ) where

@@ -2,13 +2,13 @@
 use Prim.Native.Nat.{ℕ, zero, suc, _≤_, _<_}
 use native.Mathlib.Nat.{le-of-suc-le-suc, not-suc-le-zero}
 use native.Mathlib.Omega.{arith}
-use mathlib.Core.Path.{_≡_, refl, ap}
+use mathlib.Core.Path.{_≡_, refl, ap, ap₂}
 use mathlib.Core.Logic.{_⊎_, inl, inr}
 use mathlib.Core.Bool.{Bool, true, false, _||_, false≢true, and-eq-true-iff}
 use lib.ListN.{length, getD}
 use lib.Dec.{leb}
 use borrow.Author.Tests.{leb-true, leb-false}
-use Rattle.model.specs.Places.{tab, every, some, most, imp}
+use Rattle.model.specs.Places.{tab, every, some, most, first, imp}
 
 module _ {A : Type 0} where
   pub length-tab : (n : ℕ) (f : ℕ → A) → length (tab n f) ≡ n
@@ -66,6 +66,11 @@ most-at (suc n) f = pick (most-at n (λ j. f (suc j))) _ refl
         → (i : ℕ) × (i < suc (suc n)) × (f i ≡ most (suc (suc n)) f)
     pick r true e = (suc (r .0), omega arith, omega (arith, leb-true (f zero) (most (suc n) (λ j. f (suc j))) e))
     pick r false e = (zero, omega arith, omega (arith, leb-false (f zero) (most (suc n) (λ j. f (suc j))) e))
+
+pub first-same : (n : ℕ) (p q : ℕ → Bool) → ((i : ℕ) → i < n → p i ≡ q i) → first n p ≡ first n q
+first-same zero p q h = refl
+first-same (suc n) p q h =
+    ap₂ (λ (b : Bool) (k : ℕ). elim b as (λ x. ℕ) [ true ↦ zero | false ↦ suc k ]) (h zero (omega arith)) (first-same n (λ i. p (suc i)) (λ i. q (suc i)) (λ i l. h (suc i) (omega arith)))
 
 pub imp-of : (a b : Bool) → (a ≡ true → b ≡ true) → imp a b ≡ true
 imp-of true b f = f refl

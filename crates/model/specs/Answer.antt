@@ -7,7 +7,7 @@ use Rattle.model.specs.declared.Answer.the-variants.{Done, Size, Limit, 
 
 -- number, place, first count, second count
 abbrev pub row : Answer → List ℕ
-row (Done k l) = 0 ∷ 0 ∷ k ∷ l ∷ []
+row (Done p k l) = 0 ∷ p ∷ k ∷ l ∷ []
 row Size = 1 ∷ 0 ∷ 0 ∷ 0 ∷ []
 row Limit = 2 ∷ 0 ∷ 0 ∷ 0 ∷ []
 row (Kind p) = 3 ∷ p ∷ 0 ∷ 0 ∷ []
@@ -15,7 +15,7 @@ row (Wire p) = 4 ∷ p ∷ 0 ∷ 0 ∷ []
 row (State p) = 5 ∷ p ∷ 0 ∷ 0 ∷ []
 row (Change p) = 6 ∷ p ∷ 0 ∷ 0 ∷ []
 row Start = 7 ∷ 0 ∷ 0 ∷ 0 ∷ []
-row (Oscillates k) = 8 ∷ 0 ∷ k ∷ 0 ∷ []
+row (Oscillates p k) = 8 ∷ p ∷ k ∷ 0 ∷ []
 
 abbrev pub number : Answer → ℕ
 number a = at (row a) 0

@@ -7,7 +7,7 @@ use Rattle.model.specs.Net.{Net, stands, linked, spread, joined, strengt
 use Rattle.model.specs.Run.{changesOf, raised, lowered, unitSteps, firstHalf, secondHalf}
 use Rattle.model.specs.Answer.{row}
 use Rattle.model.specs.Rules.{wireTests, changeTests, stepSizes, runSizes, runRules, unitRules, ternaryRules}
-use Rattle.model.specs.Entries.{Outcome, altered, cleared, unitOutcome, ternaryOutcome}
+use Rattle.model.specs.Entries.{Outcome, altered, firstChanged, cleared, unitOutcome, ternaryOutcome}
 
 -- a work area that is large enough for each network of the set
 abbrev work : List ℕ
@@ -69,7 +69,7 @@ listed =
     ∷ (0 ∷ 0 ∷ 1 ∷ 1 ∷ 0 ∷ 0 ∷ 1 ∷ [])
     ∷ (0 ∷ 0 ∷ 1 ∷ 0 ∷ 1 ∷ 2 ∷ 2 ∷ [])
     ∷ (0 ∷ 0 ∷ 0 ∷ 0 ∷ 2 ∷ 1 ∷ 1 ∷ [])
-    ∷ (8 ∷ 0 ∷ 4 ∷ 0 ∷ 0 ∷ 0 ∷ [])
+    ∷ (8 ∷ 1 ∷ 4 ∷ 0 ∷ 0 ∷ 0 ∷ [])
     ∷ (7 ∷ 0 ∷ 0 ∷ 0 ∷ 0 ∷ 0 ∷ [])
     ∷ (6 ∷ 1 ∷ 0 ∷ 0 ∷ 0 ∷ 2 ∷ 2 ∷ [])
     ∷ (0 ∷ 0 ∷ 1 ∷ 0 ∷ 2 ∷ 2 ∷ 1 ∷ 1 ∷ [])
@@ -81,5 +81,5 @@ listed =
     ∷ []
 
 pub bench : ran ≡ listed
-unfolding stands linked spread joined strength setState new step raised lowered unitSteps firstHalf secondHalf wireTests changeTests stepSizes runSizes runRules unitRules ternaryRules altered cleared unitOutcome ternaryOutcome
+unfolding stands linked spread joined strength setState new step raised lowered unitSteps firstHalf secondHalf wireTests changeTests stepSizes runSizes runRules unitRules ternaryRules altered firstChanged cleared unitOutcome ternaryOutcome
 bench = refl

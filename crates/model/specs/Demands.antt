@@ -78,6 +78,13 @@ pub record Unsettled (f : List ℕ → List ℕ) (top : ℕ) (from x : List ℕ)
   pub states : x ≡ iter top f from
   pub none : (j : ℕ) → j ≤ top → f (iter j f from) ≡ iter j f from → ⊥
 
+-- v is the lowest node that a step from s changes, and it is no input
+pub record FirstMoved (n : ℕ) (input : ℕ → Bool) (f : List ℕ → List ℕ) (s : List ℕ) (v : ℕ) : Type 0 where
+  pub below : v < n
+  pub free : input v ≡ false
+  pub moves : at (f s) v ≡ at s v → ⊥
+  pub least : (u : ℕ) → u < v → at (f s) u ≡ at s u
+
 -- the number of nodes that are no inputs
 abbrev pub freeNodes : ℕ → (ℕ → Bool) → ℕ
 freeNodes n input = count n (λ v. not (input v))

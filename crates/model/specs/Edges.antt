@@ -1,5 +1,5 @@
 -- What the bench set leaves out, from the definitions, under one claim: each stand of a transistor, both sides of each bound, a run that ends
--- exactly at its limit, the limit in force, the work area after each kind of answer. Assumes nothing.
+-- exactly at its limit, the limit in force, the first changed node, the work area after each kind of answer. Assumes nothing.
 use Prim.Native.Nat.{ℕ, zero, suc}
 use mathlib.Core.Path.{_≡_, refl}
 use mathlib.Core.Bool.{Bool, true, false}
@@ -9,7 +9,7 @@ use Rattle.model.specs.Net.{Net, Stand, opened, closed, unknown, stand, 
 use Rattle.model.specs.Run.{changesOf, raised, lowered, limitOf, unitSteps, firstHalf, secondHalf}
 use Rattle.model.specs.Answer.{row}
 use Rattle.model.specs.Rules.{nodeSizes, wireSizes, changeSizes, wireTests, changeTests, checkSizes, checkRules, resetSizes, resetRules, stepRules, stepSizes, runSizes, runRules, unitRules, ternaryRules}
-use Rattle.model.specs.Entries.{Outcome, altered, cleared, checkAnswer, resetOutcome, stepOutcome, unitOutcome, ternaryOutcome}
+use Rattle.model.specs.Entries.{Outcome, altered, firstChanged, cleared, checkAnswer, resetOutcome, stepOutcome, unitOutcome, ternaryOutcome}
 use Rattle.model.specs.Bench.{line, INV, RING, LATCH}
 
 -- n times a; a table by `tab` takes a number of steps that grows with the square of n
@@ -28,6 +28,10 @@ one kind type gate source drain = record { kinds = 2 ∷ kind ∷ 0 ∷ []; type
 -- two inverters in a row: 0 I, 1 I, 2 P, 3 P; n(1; 0, 2), n(2; 0, 3)
 abbrev TWO : Net
 TWO = record { kinds = 2 ∷ 2 ∷ 1 ∷ 1 ∷ []; types = 0 ∷ 0 ∷ []; gates = 1 ∷ 2 ∷ []; sources = 0 ∷ 0 ∷ []; drains = 2 ∷ 3 ∷ [] }
+
+-- three inverters in a ring: 0 I, 1 P, 2 P, 3 P; n(1; 0, 2), n(2; 0, 3), n(3; 0, 1)
+abbrev THREE : Net
+THREE = record { kinds = 2 ∷ 1 ∷ 1 ∷ 1 ∷ []; types = many 3 0; gates = 1 ∷ 2 ∷ 3 ∷ []; sources = many 3 0; drains = 2 ∷ 3 ∷ 1 ∷ [] }
 
 abbrev left : Outcome → List ℕ
 left o = o .work
@@ -86,6 +90,10 @@ seen =
     -- the second inverter reads what the first had before the step
     ∷ line (stepOutcome TWO (0 ∷ 1 ∷ 1 ∷ 0 ∷ []) (many 20 9))
     ∷ line (unitOutcome TWO (0 ∷ 1 ∷ 1 ∷ 0 ∷ []) (changesOf [] []) 0 (many 20 9))
+    -- two pullups: the step changes both, the second alone, none
+    ∷ line (stepOutcome (bare (1 ∷ 1 ∷ []) 0) (0 ∷ 0 ∷ []) (many 8 9))
+    ∷ line (stepOutcome (bare (1 ∷ 1 ∷ []) 0) (1 ∷ 0 ∷ []) (many 8 9))
+    ∷ line (stepOutcome (bare (1 ∷ 1 ∷ []) 0) (1 ∷ 1 ∷ []) (many 8 9))
     -- the work area exact, and one cell less; a state above X; what is left in the area
     ∷ line (stepOutcome INV (0 ∷ 1 ∷ 1 ∷ []) (many 14 9))
     ∷ line (stepOutcome INV (0 ∷ 1 ∷ 1 ∷ []) (many 13 9))
@@ -99,6 +107,10 @@ seen =
     ∷ line (unitOutcome RING (0 ∷ 0 ∷ []) (changesOf [] []) 1 (many 10 9))
     ∷ line (unitOutcome RING (0 ∷ 0 ∷ []) (changesOf [] []) 99 (many 10 9))
     ∷ line (unitOutcome RING (0 ∷ 0 ∷ []) (changesOf [] []) 100 (many 10 9))
+    -- round three inverters a change goes from node to node: each run names the node after the one that its last step changed
+    ∷ line (unitOutcome THREE (0 ∷ 0 ∷ 1 ∷ 0 ∷ []) (changesOf [] []) 1 (many 22 9))
+    ∷ line (unitOutcome THREE (0 ∷ 0 ∷ 1 ∷ 0 ∷ []) (changesOf [] []) 2 (many 22 9))
+    ∷ line (unitOutcome THREE (0 ∷ 0 ∷ 1 ∷ 0 ∷ []) (changesOf [] []) 3 (many 22 9))
     ∷ left (unitOutcome RING (0 ∷ 0 ∷ []) (changesOf [] []) 1 (many 12 9))
     ∷ left (unitOutcome INV (0 ∷ 1 ∷ 1 ∷ []) (changesOf [] []) 10001 (many 16 9))
     -- changes: no node, no input, no state, a node named earlier, one state for two nodes; an input changed to what it is
@@ -133,14 +145,17 @@ seenSo =
     ∷ (0 ∷ 0 ∷ 0 ∷ 0 ∷ 2 ∷ 2 ∷ [])
     ∷ (3 ∷ 1 ∷ 0 ∷ 0 ∷ 7 ∷ 255 ∷ [])
     ∷ (1 ∷ 0 ∷ 0 ∷ 0 ∷ 7 ∷ [])
-    ∷ (0 ∷ 0 ∷ 0 ∷ 0 ∷ 1 ∷ 0 ∷ 1 ∷ [])
-    ∷ (0 ∷ 0 ∷ 1 ∷ 0 ∷ 1 ∷ 1 ∷ 0 ∷ [])
-    ∷ (0 ∷ 0 ∷ 1 ∷ 0 ∷ 1 ∷ 2 ∷ 2 ∷ [])
-    ∷ (0 ∷ 0 ∷ 0 ∷ 0 ∷ 1 ∷ 0 ∷ 1 ∷ [])
-    ∷ (0 ∷ 0 ∷ 0 ∷ 0 ∷ 1 ∷ 0 ∷ 1 ∷ [])
-    ∷ (0 ∷ 0 ∷ 1 ∷ 0 ∷ 0 ∷ 1 ∷ 0 ∷ 0 ∷ [])
+    ∷ (0 ∷ 3 ∷ 0 ∷ 0 ∷ 1 ∷ 0 ∷ 1 ∷ [])
+    ∷ (0 ∷ 1 ∷ 1 ∷ 0 ∷ 1 ∷ 1 ∷ 0 ∷ [])
+    ∷ (0 ∷ 1 ∷ 1 ∷ 0 ∷ 1 ∷ 2 ∷ 2 ∷ [])
+    ∷ (0 ∷ 3 ∷ 0 ∷ 0 ∷ 1 ∷ 0 ∷ 1 ∷ [])
+    ∷ (0 ∷ 3 ∷ 0 ∷ 0 ∷ 1 ∷ 0 ∷ 1 ∷ [])
+    ∷ (0 ∷ 2 ∷ 1 ∷ 0 ∷ 0 ∷ 1 ∷ 0 ∷ 0 ∷ [])
     ∷ (0 ∷ 0 ∷ 2 ∷ 0 ∷ 0 ∷ 1 ∷ 0 ∷ 1 ∷ [])
-    ∷ (0 ∷ 0 ∷ 1 ∷ 0 ∷ 0 ∷ 1 ∷ 0 ∷ [])
+    ∷ (0 ∷ 0 ∷ 2 ∷ 0 ∷ 1 ∷ 1 ∷ [])
+    ∷ (0 ∷ 1 ∷ 1 ∷ 0 ∷ 1 ∷ 1 ∷ [])
+    ∷ (0 ∷ 2 ∷ 0 ∷ 0 ∷ 1 ∷ 1 ∷ [])
+    ∷ (0 ∷ 2 ∷ 1 ∷ 0 ∷ 0 ∷ 1 ∷ 0 ∷ [])
     ∷ (1 ∷ 0 ∷ 0 ∷ 0 ∷ 0 ∷ 1 ∷ 1 ∷ [])
     ∷ (5 ∷ 2 ∷ 0 ∷ 0 ∷ 0 ∷ 1 ∷ 3 ∷ [])
     ∷ (many 14 0 ++ 9 ∷ 9 ∷ [])
@@ -148,9 +163,12 @@ seenSo =
     ∷ (0 ∷ 0 ∷ 1 ∷ 0 ∷ 0 ∷ 1 ∷ 0 ∷ [])
     ∷ (2 ∷ 0 ∷ 0 ∷ 0 ∷ 0 ∷ 1 ∷ 1 ∷ [])
     ∷ (0 ∷ 0 ∷ 1 ∷ 0 ∷ 0 ∷ 1 ∷ 0 ∷ [])
-    ∷ (8 ∷ 0 ∷ 1 ∷ 0 ∷ 0 ∷ 1 ∷ [])
-    ∷ (8 ∷ 0 ∷ 99 ∷ 0 ∷ 0 ∷ 1 ∷ [])
-    ∷ (8 ∷ 0 ∷ 100 ∷ 0 ∷ 0 ∷ 0 ∷ [])
+    ∷ (8 ∷ 1 ∷ 1 ∷ 0 ∷ 0 ∷ 1 ∷ [])
+    ∷ (8 ∷ 1 ∷ 99 ∷ 0 ∷ 0 ∷ 1 ∷ [])
+    ∷ (8 ∷ 1 ∷ 100 ∷ 0 ∷ 0 ∷ 0 ∷ [])
+    ∷ (8 ∷ 2 ∷ 1 ∷ 0 ∷ 0 ∷ 1 ∷ 1 ∷ 0 ∷ [])
+    ∷ (8 ∷ 3 ∷ 2 ∷ 0 ∷ 0 ∷ 1 ∷ 0 ∷ 0 ∷ [])
+    ∷ (8 ∷ 1 ∷ 3 ∷ 0 ∷ 0 ∷ 1 ∷ 0 ∷ 1 ∷ [])
     ∷ (many 10 0 ++ 9 ∷ 9 ∷ [])
     ∷ many 16 9
     ∷ (6 ∷ 0 ∷ 0 ∷ 0 ∷ 0 ∷ 1 ∷ 0 ∷ [])
@@ -169,5 +187,5 @@ seenSo =
     ∷ []
 
 pub edges : (stood ≡ stoodSo) × (inForce ≡ inForceSo) × (large ≡ largeSo) × (seen ≡ seenSo)
-unfolding stands linked spread joined strength setState new step raised lowered unitSteps firstHalf secondHalf wireTests changeTests checkSizes checkRules resetSizes resetRules stepRules stepSizes runSizes runRules unitRules ternaryRules altered cleared checkAnswer resetOutcome stepOutcome unitOutcome ternaryOutcome
+unfolding stands linked spread joined strength setState new step raised lowered unitSteps firstHalf secondHalf wireTests changeTests checkSizes checkRules resetSizes resetRules stepRules stepSizes runSizes runRules unitRules ternaryRules altered firstChanged cleared checkAnswer resetOutcome stepOutcome unitOutcome ternaryOutcome
 edges = (refl, refl, refl, refl)

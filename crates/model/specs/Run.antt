@@ -25,7 +25,7 @@ put s (p ∷ ps) (v ∷ vs) = put (set s p v) ps vs
 abbrev pub entered : List ℕ → Changes → List ℕ
 entered s ch = put s (ch .places) (ch .values)
 
--- a changed input is one whose new state differs from its present one
+-- a changed node is one whose state in `to` differs from that in s; a changed input, one whose new state differs from its present one
 abbrev pub changed : List ℕ → List ℕ → ℕ → Bool
 changed s to v = not (eqb (at s v) (at to v))
 

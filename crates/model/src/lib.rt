@@ -29,8 +29,9 @@ pub fn is_input(kind: u8) -> bool
 
 // One of nine kinds, each with its own numbers.
 pub enum Answer {
-    // settled, or done with what was asked; the counts of a step, a unit run, both halves of a ternary run
-    Done { first: u32, second: u32 },
+    // settled, or done with what was asked: after a step the first node that it changed, or the number of nodes where it changed none,
+    // else 0; the counts of a step, a unit run, both halves of a ternary run
+    Done { place: u32, first: u32, second: u32 },
     // a length or a count breaks the bounds
     Size,
     // the step limit is too high
@@ -45,8 +46,8 @@ pub enum Answer {
     Change(u32),
     // a ternary run from a state that is not settled
     Start,
-    // a unit run that did not settle within its limit
-    Oscillates(u32),
+    // a unit run that did not settle within its limit: the first node that the next step would change, and the limit in force
+    Oscillates { place: u32, limit: u32 },
 }
 
 // Whether what is lent is taken, or which refusal it gets.

@@ -11,9 +11,16 @@ ghost use Rattle.model.specs.Demands.{Enterable};
 ghost use Rattle.basis.specs.Sound.{Checked, Named};
 ghost use Rattle.basis.specs.Steps.{ruleOne, Stepped, Told, Ended, Halved};
 
-// How steps ended: settled or not, and after how many.
+// What a step changed: the first node, or the number of nodes where it changed none; and how many.
+pub struct Moved {
+    pub first: u32,
+    pub count: u32,
+}
+
+// How steps ended: settled or not, the first node that the next step would change, and after how many.
 pub struct Ran {
     pub ends: bool,
+    pub place: u32,
     pub count: u32,
 }
 
@@ -23,7 +30,7 @@ pub struct Halves {
     pub second: u32,
 }
 
-// One step; how many nodes differ after it.
+// One step; the first node that differs after it, and how many do.
 pub fn step_once(
     kinds: &[u8],
     states: &mut [u8],
@@ -32,15 +39,16 @@ pub fn step_once(
     sources: &[u16],
     drains: &[u16],
     work: &mut [u16],
-) -> u32
+) -> Moved
     requires { ⌜ Checked (netNow kinds types gates sources drains) (now states) (length (now work)) ⌝ }
     ensures { λ r. let net = lentNet kinds types gates sources drains in
-        ⌜ Stepped (ruleOne net) (lent states) (lent work) r (left states) (left work) ⌝ }
+        ⌜ Stepped (ruleOne net) (lent states) (lent work) (r .first) (r .count) (left states) (left work) ⌝ }
 {
     stepper::evaluate(kinds, states, types, gates, sources, drains, work);
-    let differ = cells::differing(states, work);
+    let first = cells::first_changed(states, work);
+    let count = cells::differing(states, work);
     cells::store(states, work);
-    differ
+    Moved { first, count }
 }
 
 // Whether a step would alter nothing.
@@ -58,7 +66,7 @@ pub fn settled(
         ⌜ Told (ruleOne net) (lent states) (lent work) r (left work) ⌝ }
 {
     stepper::evaluate(kinds, states, types, gates, sources, drains, work);
-    cells::differing(states, work) == 0
+    cells::first_changed(states, work) == states.len() as u32
 }
 
 // Steps until settled, at most `limit` of them. The step that alters nothing is not counted.
@@ -76,16 +84,15 @@ pub fn settle(
         ⌜ Checked net (now states) (length (now work)) × (limit ≤ highestLimit) ⌝ }
     ensures { λ r. let net = lentNet kinds types gates sources drains in
         let run = settle (step net) limit 0 (lent states) in
-        ⌜ Ended (ruleOne net) run (lent work) (r .ends) (r .count) (left states) (left work) ⌝ }
+        ⌜ Ended (ruleOne net) run (lent work) (r .ends) (r .place) (r .count) (left states) (left work) ⌝ }
 {
     let mut count = 0;
     loop {
         stepper::evaluate(kinds, states, types, gates, sources, drains, work);
-        if cells::differing(states, work) == 0 {
-            return Ran { ends: true, count };
-        }
-        if count == limit {
-            return Ran { ends: false, count };
+        let place = cells::first_changed(states, work);
+        let ends = place == states.len() as u32;
+        if ends || count == limit {
+            return Ran { ends, place, count };
         }
         cells::store(states, work);
         count += 1;
@@ -120,7 +127,7 @@ pub fn unit_core(
         ⌜ Checked net (now states) (length (now work)) × Named changes (length (now kinds)) × (limit ≤ highestLimit) ⌝ }
     ensures { λ r. let net = lentNet kinds types gates sources drains in
         let run = unitSteps (step net) (lent states) (lentChanges nodes news) limit in
-        ⌜ Ended (ruleOne net) run (lent work) (r .ends) (r .count) (left states) (left work) ⌝ }
+        ⌜ Ended (ruleOne net) run (lent work) (r .ends) (r .place) (r .count) (left states) (left work) ⌝ }
 {
     cells::enter(states, nodes, news);
     settle(

@@ -7,7 +7,7 @@ use Rattle.model.specs.Net.{Net, stands, linked, spread, joined, strength, setS
 use Rattle.model.specs.Run.{Changes, raised, lowered, unitSteps, firstHalf, secondHalf}
 use Rattle.model.specs.Answer.{row}
 use Rattle.model.specs.Rules.{wireTests, changeTests, checkSizes, checkRules, resetSizes, resetRules, stepSizes, stepRules, runSizes, runRules, unitRules, ternaryRules}
-use Rattle.model.specs.Entries.{Outcome, altered, cleared, checkAnswer, resetOutcome, stepOutcome, unitOutcome, ternaryOutcome}
+use Rattle.model.specs.Entries.{Outcome, altered, firstChanged, cleared, checkAnswer, resetOutcome, stepOutcome, unitOutcome, ternaryOutcome}
 
 -- n cells of 0; n cells of which each is one more than the last
 abbrev zeros : ℕ → List ℕ
@@ -156,30 +156,30 @@ found =
     ∷ left (0 ∷ 0 ∷ 0 ∷ 0 ∷ []) (2 ∷ 2 ∷ []) []
     ∷ left (1 ∷ 0 ∷ 0 ∷ 0 ∷ []) (1 ∷ 0 ∷ []) []
     -- one step
-    ∷ left (0 ∷ 0 ∷ 3 ∷ 0 ∷ []) (1 ∷ 1 ∷ 0 ∷ 0 ∷ 1 ∷ 1 ∷ []) (zeros 36 ++ from 38 2)
+    ∷ left (0 ∷ 1 ∷ 3 ∷ 0 ∷ []) (1 ∷ 1 ∷ 0 ∷ 0 ∷ 1 ∷ 1 ∷ []) (zeros 36 ++ from 38 2)
     ∷ left (1 ∷ 0 ∷ 0 ∷ 0 ∷ []) (1 ∷ 0 ∷ []) (from 2 10)
     ∷ left (1 ∷ 0 ∷ 0 ∷ 0 ∷ []) [] (from 8 18)
-    ∷ left (0 ∷ 0 ∷ 2 ∷ 0 ∷ []) (0 ∷ 1 ∷ 1 ∷ 2 ∷ 2 ∷ 0 ∷ []) (zeros 28)
+    ∷ left (0 ∷ 1 ∷ 2 ∷ 0 ∷ []) (0 ∷ 1 ∷ 1 ∷ 2 ∷ 2 ∷ 0 ∷ []) (zeros 28)
     ∷ left (1 ∷ 0 ∷ 0 ∷ 0 ∷ []) (1 ∷ 0 ∷ 2 ∷ 2 ∷ 2 ∷ []) (from 2 21)
-    ∷ left (0 ∷ 0 ∷ 2 ∷ 0 ∷ []) (2 ∷ 0 ∷ 1 ∷ 1 ∷ 2 ∷ 2 ∷ []) (zeros 32 ++ from 34 2)
+    ∷ left (0 ∷ 3 ∷ 2 ∷ 0 ∷ []) (2 ∷ 0 ∷ 1 ∷ 1 ∷ 2 ∷ 2 ∷ []) (zeros 32 ++ from 34 2)
     ∷ left (3 ∷ 0 ∷ 0 ∷ 0 ∷ []) (1 ∷ 2 ∷ 0 ∷ 1 ∷ 0 ∷ []) (from 8 21)
     ∷ left (4 ∷ 3 ∷ 0 ∷ 0 ∷ []) (0 ∷ []) (from 4 12)
-    ∷ left (0 ∷ 0 ∷ 3 ∷ 0 ∷ []) (2 ∷ 2 ∷ 2 ∷ 2 ∷ 2 ∷ 2 ∷ []) (zeros 36 ++ from 37 2)
+    ∷ left (0 ∷ 2 ∷ 3 ∷ 0 ∷ []) (2 ∷ 2 ∷ 2 ∷ 2 ∷ 2 ∷ 2 ∷ []) (zeros 36 ++ from 37 2)
     ∷ left (4 ∷ 1 ∷ 0 ∷ 0 ∷ []) (0 ∷ 0 ∷ 2 ∷ []) (from 8 24)
-    ∷ left (0 ∷ 0 ∷ 3 ∷ 0 ∷ []) (2 ∷ 0 ∷ 0 ∷ 1 ∷ 2 ∷ 0 ∷ []) (zeros 34 ++ from 39 2)
+    ∷ left (0 ∷ 1 ∷ 3 ∷ 0 ∷ []) (2 ∷ 0 ∷ 0 ∷ 1 ∷ 2 ∷ 0 ∷ []) (zeros 34 ++ from 39 2)
     ∷ left (5 ∷ 0 ∷ 0 ∷ 0 ∷ []) (255 ∷ []) (from 5 9)
     ∷ left (0 ∷ 0 ∷ 3 ∷ 0 ∷ []) (2 ∷ 2 ∷ 2 ∷ 1 ∷ []) (zeros 28 ++ from 34 2)
     -- unit runs
     ∷ left (0 ∷ 0 ∷ 2 ∷ 0 ∷ []) (2 ∷ 0 ∷ 2 ∷ 0 ∷ 2 ∷ []) (zeros 28 ++ from 35 2)
     ∷ left (1 ∷ 0 ∷ 0 ∷ 0 ∷ []) (2 ∷ 2 ∷ []) (from 7 12)
-    ∷ left (8 ∷ 0 ∷ 3 ∷ 0 ∷ []) (0 ∷ 2 ∷ 2 ∷ 0 ∷ 2 ∷ 0 ∷ []) (zeros 30)
+    ∷ left (8 ∷ 5 ∷ 3 ∷ 0 ∷ []) (0 ∷ 2 ∷ 2 ∷ 0 ∷ 2 ∷ 0 ∷ []) (zeros 30)
     ∷ left (0 ∷ 0 ∷ 2 ∷ 0 ∷ []) (2 ∷ 2 ∷ 0 ∷ 1 ∷ 1 ∷ 2 ∷ []) (zeros 36 ++ from 39 2)
     ∷ left (1 ∷ 0 ∷ 0 ∷ 0 ∷ []) [] (from 7 8)
     ∷ left (0 ∷ 0 ∷ 2 ∷ 0 ∷ []) (0 ∷ 2 ∷ 0 ∷ 0 ∷ []) (zeros 22 ++ from 26 2)
     ∷ left (1 ∷ 0 ∷ 0 ∷ 0 ∷ []) (0 ∷ 2 ∷ 2 ∷ 2 ∷ []) []
     ∷ left (2 ∷ 0 ∷ 0 ∷ 0 ∷ []) (1 ∷ 1 ∷ 2 ∷ 2 ∷ []) (from 2 18)
     ∷ left (0 ∷ 0 ∷ 2 ∷ 0 ∷ []) (1 ∷ 1 ∷ 0 ∷ 1 ∷ 2 ∷ 1 ∷ []) (zeros 34 ++ from 40 1)
-    ∷ left (8 ∷ 0 ∷ 3 ∷ 0 ∷ []) (2 ∷ 0 ∷ 0 ∷ []) (zeros 22)
+    ∷ left (8 ∷ 1 ∷ 3 ∷ 0 ∷ []) (2 ∷ 0 ∷ 0 ∷ []) (zeros 22)
     ∷ left (3 ∷ 0 ∷ 0 ∷ 0 ∷ []) (2 ∷ []) (from 2 8)
     ∷ left (0 ∷ 0 ∷ 1 ∷ 0 ∷ []) (1 ∷ 2 ∷ 2 ∷ 2 ∷ 2 ∷ []) (zeros 28 ++ from 32 1)
     ∷ left (4 ∷ 0 ∷ 0 ∷ 0 ∷ []) (2 ∷ []) (from 3 18)
@@ -187,7 +187,7 @@ found =
     ∷ left (4 ∷ 5 ∷ 0 ∷ 0 ∷ []) (0 ∷ 2 ∷ []) (from 7 20)
     ∷ left (0 ∷ 0 ∷ 1 ∷ 0 ∷ []) (2 ∷ 1 ∷ 1 ∷ 1 ∷ 1 ∷ []) (zeros 30 ++ from 36 1)
     ∷ left (5 ∷ 1 ∷ 0 ∷ 0 ∷ []) (2 ∷ 3 ∷ 0 ∷ 2 ∷ 3 ∷ []) (from 5 28)
-    ∷ left (8 ∷ 0 ∷ 3 ∷ 0 ∷ []) (2 ∷ 1 ∷ 0 ∷ 2 ∷ 2 ∷ []) (zeros 32 ++ from 41 1)
+    ∷ left (8 ∷ 1 ∷ 3 ∷ 0 ∷ []) (2 ∷ 1 ∷ 0 ∷ 2 ∷ 2 ∷ []) (zeros 32 ++ from 41 1)
     ∷ left (6 ∷ 0 ∷ 0 ∷ 0 ∷ []) (0 ∷ 1 ∷ 2 ∷ 1 ∷ []) (from 8 20)
     ∷ left (0 ∷ 0 ∷ 2 ∷ 0 ∷ []) (1 ∷ 1 ∷ 2 ∷ 0 ∷ 2 ∷ 1 ∷ []) (zeros 28 ++ from 35 2)
     ∷ left (4 ∷ 0 ∷ 0 ∷ 0 ∷ []) (2 ∷ 0 ∷ []) (from 5 19)
@@ -222,5 +222,5 @@ found =
     ∷ []
 
 pub samples : ran ≡ found
-unfolding stands linked spread joined strength setState new step raised lowered unitSteps firstHalf secondHalf wireTests changeTests checkSizes checkRules resetSizes resetRules stepSizes stepRules runSizes runRules unitRules ternaryRules altered cleared checkAnswer resetOutcome stepOutcome unitOutcome ternaryOutcome
+unfolding stands linked spread joined strength setState new step raised lowered unitSteps firstHalf secondHalf wireTests changeTests checkSizes checkRules resetSizes resetRules stepSizes stepRules runSizes runRules unitRules ternaryRules altered firstChanged cleared checkAnswer resetOutcome stepOutcome unitOutcome ternaryOutcome
 samples = refl

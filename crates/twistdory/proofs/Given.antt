@@ -17,7 +17,7 @@ use Rattle.basis.proofs.Verdicts.{refused-gives, accepted-gives, leaves-at, ref
 module _ (v : Verdict) (a : Answer) (h : v ≡ Refused a) where
   pub check-refused : (net : Net) → v ≡ judge (checkRules net) → a ≡ checkAnswer net
   unfolding checkAnswer
-  check-refused net e = refused-gives (checkRules net) (λ b. b) (Done 0 0) v e a h
+  check-refused net e = refused-gives (checkRules net) (λ b. b) (Done 0 0 0) v e a h
 
   pub reset-refused : (kinds s : List ℕ) → v ≡ judge (resetRules kinds s) → Leaves (resetOutcome kinds s) a s []
   unfolding resetOutcome
@@ -36,11 +36,11 @@ module _ (v : Verdict) (a : Answer) (h : v ≡ Refused a) where
   ternary-refused net s ch w e = refused-leaves (ternaryRules net s ch w) s w _ v e a h
 
 -- what check and reset give that accept
-pub check-accepted : (v : Verdict) → v ≡ Accepted → (net : Net) → v ≡ judge (checkRules net) → Done 0 0 ≡ checkAnswer net
+pub check-accepted : (v : Verdict) → v ≡ Accepted → (net : Net) → v ≡ judge (checkRules net) → Done 0 0 0 ≡ checkAnswer net
 unfolding checkAnswer
-check-accepted v h net e = accepted-gives (checkRules net) (λ b. b) (Done 0 0) v e h
+check-accepted v h net e = accepted-gives (checkRules net) (λ b. b) (Done 0 0 0) v e h
 
-pub reset-accepted : (v : Verdict) → v ≡ Accepted → (kinds s : List ℕ) → v ≡ judge (resetRules kinds s) → (a : Answer) (x : List ℕ) → a ≡ Done 0 0 → x ≡ tab (length s) (λ i. 2) → Leaves (resetOutcome kinds s) a x []
+pub reset-accepted : (v : Verdict) → v ≡ Accepted → (kinds s : List ℕ) → v ≡ judge (resetRules kinds s) → (a : Answer) (x : List ℕ) → a ≡ Done 0 0 0 → x ≡ tab (length s) (λ i. 2) → Leaves (resetOutcome kinds s) a x []
 unfolding resetOutcome
 reset-accepted v h kinds s e a x p q =
-    leaves-at (accepted-gives (resetRules kinds s) (untouched s []) (record { answer = Done 0 0; states = tab (length s) (λ i. 2); work = [] }) v e h) (record { answers = p; states-left = q; work-left = refl })
+    leaves-at (accepted-gives (resetRules kinds s) (untouched s []) (record { answer = Done 0 0 0; states = tab (length s) (λ i. 2); work = [] }) v e h) (record { answers = p; states-left = q; work-left = refl })

@@ -1,25 +1,26 @@
 -- The demands, as what a caller may conclude from the contracts alone: s and w are the states and the work area as they were lent, r the answer,
 -- t and u the states and the work area as they are left. Assumes nothing.
 use Prim.Native.Nat.{ℕ, _≤_, _<_}
-use mathlib.Core.Path.{_≡_, refl, ap, sym, subst}
+use mathlib.Core.Path.{_≡_, refl, ap, _∙_, sym, subst}
 use mathlib.Core.Bool.{Bool, true}
-use mathlib.Core.Logic.{_⊎_, _↔_}
+use mathlib.Core.Logic.{_⊎_, inr, _↔_}
 use mathlib.Core.List.{List, []}
 use lib.ListN.{length}
 use Rattle.model.specs.Places.{tab, at}
 use Rattle.model.specs.Net.{Net, nodes, isInput, stands, joined, setState, step}
 use Rattle.model.specs.Run.{Changes, entered, changed, limitOf}
-use Rattle.model.specs.Answer.{number, firstCount, secondCount}
+use Rattle.model.specs.Answer.{number, place, firstCount, secondCount}
 use Rattle.model.specs.Rules.{cells, checkRules, resetRules, stepRules, unitRules}
-use Rattle.model.specs.Entries.{Outcome, cleared, altered, checkAnswer, resetOutcome, stepOutcome, unitOutcome, ternaryOutcome, Leaves}
+use Rattle.model.specs.Entries.{Outcome, cleared, altered, firstChanged, checkAnswer, resetOutcome, stepOutcome, unitOutcome, ternaryOutcome, Leaves}
 use Rattle.model.specs.Order.{_≼_}
 use Rattle.model.specs.Cover.{OneByOne}
-use Rattle.model.specs.Demands.{Choice, Lowest, Settles, Unsettled, Covered}
+use Rattle.model.specs.Demands.{Clean, Choice, Lowest, Settles, Unsettled, FirstMoved, Covered}
 use Rattle.model.specs.Alike.{Alike, SameAnswer, SameRun}
 use Rattle.model.specs.declared.Answer.{Answer}
 use Rattle.model.specs.declared.Answer.the-variants.{Oscillates}
 use Rattle.laws.proofs.RuleOne.{Inner, step-exactly}
-use Rattle.laws.proofs.Demands.{check-lowest, reset-lowest, reset-untouched, reset-takes, allRules, step-lowest, step-untouched, step-takes, unit-lowest, unit-untouched, unit-settles, unit-at-limit, unit-runs, ternary-lowest, ternary-untouched, ternary-unsettled, ternary-settles, ternary-covers, ternary-runs, unit-below}
+use Rattle.laws.proofs.Demands.{check-lowest, reset-lowest, reset-untouched, reset-takes, allRules, step-lowest, step-untouched, stepDone, step-takes, step-takes-when, step-names, step-rests, unit-lowest, unit-untouched, unit-settles, unit-at-limit, unit-names, unit-names-none, unit-runs, ternary-lowest, ternary-untouched, ternary-unsettled, ternary-settles, ternary-covers, ternary-runs, ternary-names-none, unit-below}
+use Rattle.laws.proofs.Onward.{step-goes-on}
 use Rattle.laws.proofs.OrderFree.{step-order, unit-order, ternary-order}
 
 -- what holds of an outcome holds of what a contract leaves
@@ -56,7 +57,15 @@ module _ (net : Net) (s w : List ℕ) {r : Answer} {t u : List ℕ} (contract : 
   pub step-done : number r ≡ 0 → (t ≡ step net s) × (firstCount r ≡ altered s (step net s)) × (u ≡ cleared (cells net) w)
   step-done =
       as-left (λ (a : Answer) (x y : List ℕ). number a ≡ 0 → (x ≡ step net s) × (firstCount a ≡ altered s (step net s)) × (y ≡ cleared (cells net) w)) contract
-      (λ e. let q = step-takes net s w e in rw q (refl, refl, refl))
+      (λ e. let q = step-takes net s w e .1 in rw q (refl, refl, refl))
+
+  -- its place: the lowest node that it changed, which is no input; the number of nodes exactly where the states were settled
+  pub step-first-changed : number r ≡ 0 → (step net s ≡ s → ⊥) → FirstMoved (nodes net) (isInput net) (step net) s (place r)
+  step-first-changed =
+      as-left (λ (a : Answer) (x y : List ℕ). number a ≡ 0 → (step net s ≡ s → ⊥) → FirstMoved (nodes net) (isInput net) (step net) s (place a)) contract (step-names net s w)
+
+  pub step-none-changed : number r ≡ 0 → (place r ≡ nodes net) ↔ (step net s ≡ s)
+  step-none-changed = as-left (λ (a : Answer) (x y : List ℕ). number a ≡ 0 → (place a ≡ nodes net) ↔ (step net s ≡ s)) contract (step-rests net s w)
 
   -- demand 2: a node that is no input is 0 or 1 exactly when every choice gives it that state
   pub step-every-choice : number r ≡ 0 → (v : ℕ) → Inner net v → (b : ℕ) → b < 2
@@ -76,9 +85,18 @@ module _ (net : Net) (s : List ℕ) (ch : Changes) (limit : ℕ) (w : List ℕ) 
   unit-done = as-left (λ (a : Answer) (x y : List ℕ). number a ≡ 0 → Settles (step net) (limitOf limit) (entered s ch) (firstCount a) x) contract (unit-settles net s ch limit w)
 
   -- demand 1: a run at its limit leaves the states after exactly that many steps
-  pub unit-oscillates : number r ≡ 8 → (r ≡ Oscillates (limitOf limit)) × Unsettled (step net) (limitOf limit) (entered s ch) t
+  pub unit-oscillates : number r ≡ 8 → (r ≡ Oscillates (firstChanged t (step net t)) (limitOf limit)) × Unsettled (step net) (limitOf limit) (entered s ch) t
   unit-oscillates =
-      as-left (λ (a : Answer) (x y : List ℕ). number a ≡ 8 → (a ≡ Oscillates (limitOf limit)) × Unsettled (step net) (limitOf limit) (entered s ch) x) contract (unit-at-limit net s ch limit w)
+      as-left
+      (λ (a : Answer) (x y : List ℕ). number a ≡ 8 → (a ≡ Oscillates (firstChanged x (step net x)) (limitOf limit)) × Unsettled (step net) (limitOf limit) (entered s ch) x)
+      contract (unit-at-limit net s ch limit w)
+
+  -- its place: the lowest node that one more step would change, which is no input; where the run settles, 0
+  pub unit-next-changed : number r ≡ 8 → FirstMoved (nodes net) (isInput net) (step net) t (place r)
+  unit-next-changed = as-left (λ (a : Answer) (x y : List ℕ). number a ≡ 8 → FirstMoved (nodes net) (isInput net) (step net) x (place a)) contract (unit-names net s ch limit w)
+
+  pub unit-done-place : number r ≡ 0 → place r ≡ 0
+  unit-done-place = as-left (λ (a : Answer) (x y : List ℕ). number a ≡ 0 → place a ≡ 0) contract (unit-names-none net s ch limit w)
 
   -- demand 1: the work area
   pub unit-clears : (number r ≡ 0) ⊎ (number r ≡ 8) → u ≡ cleared (cells net) w
@@ -103,6 +121,9 @@ module _ (net : Net) (s : List ℕ) (ch : Changes) (w : List ℕ) {r : Answer} {
   ternary-done =
       as-left (λ (a : Answer) (x y : List ℕ). number a ≡ 0 → Covered (nodes net) (isInput net) (step net) s (entered s ch) (firstCount a) (secondCount a) x) contract (ternary-settles net s ch w)
 
+  pub ternary-done-place : number r ≡ 0 → place r ≡ 0
+  ternary-done-place = as-left (λ (a : Answer) (x y : List ℕ). number a ≡ 0 → place a ≡ 0) contract (ternary-names-none net s ch w)
+
   pub ternary-clears : number r ≡ 0 → u ≡ cleared (cells net) w
   ternary-clears = as-left (λ (a : Answer) (x y : List ℕ). number a ≡ 0 → y ≡ cleared (cells net) w) contract (λ h. ap (λ (o : Outcome). o .work) (ternary-runs net s ch w h .2))
 
@@ -115,6 +136,17 @@ module _ (net : Net) (s : List ℕ) (ch : Changes) (w : List ℕ) {r : Answer} {
       number a ≡ 0 → (y : List ℕ) → OneByOne (nodes net) (isInput net) (changed s (entered s ch)) (step net) (entered s ch) s y
       → step net y ≡ y → ((v : ℕ) → v < nodes net → isInput net v ≡ true → at y v ≡ at (entered s ch) v) → (v : ℕ) → at x v < 2 → at y v ≡ at x v)
       contract (ternary-covers net s ch w)
+
+-- a step from where a run stopped at its limit, in a work area that is large enough, is DONE, and has the place that the run gave
+pub step-after-oscillates : (net : Net) (s : List ℕ) (ch : Changes) (limit : ℕ) (w v : List ℕ) {r r′ : Answer} {t t′ u u′ : List ℕ}
+    → Leaves (unitOutcome net s ch limit w) r t u → Leaves (stepOutcome net t v) r′ t′ u′ → number r ≡ 8 → cells net ≤ length v → (number r′ ≡ 0) × (place r′ ≡ place r)
+step-after-oscillates net s ch limit w v {r} {r′} {t} l k e room = (ap number done, ap place done ∙ sym (ap place (unit-oscillates net s ch limit w l e .0)))
+  where
+    taken : Clean (stepRules net t v)
+    taken = subst (λ (x : List ℕ). Clean (stepRules net x v)) (sym (l .states-left)) (step-goes-on net s ch limit w (inr (sym (ap number (l .answers)) ∙ e)) v room)
+
+    done : r′ ≡ stepDone net t v .answer
+    done = k .answers ∙ ap (λ (o : Outcome). o .answer) (step-takes-when net t v taken)
 
 -- a unit run from a settled start that ends DONE lies below the ternary run's answer
 pub unit-below-ternary : (net : Net) (s : List ℕ) (ch : Changes) (limit : ℕ) (w : List ℕ) {r r′ : Answer} {t t′ u u′ : List ℕ}

@@ -7,11 +7,12 @@ ghost use mathlib.Core.List.{[]};
 ghost use Rattle.model.specs.Lent.{lent, left, lentNet, lentChanges};
 ghost use Rattle.model.specs.Entries.{checkAnswer, resetOutcome, stepOutcome, unitOutcome, ternaryOutcome, Leaves};
 
-// DONE, with counts of 0.
+// DONE, with place and counts of 0.
 fn done() -> Answer
-    ensures { λ r. ⌜ r ≡ Answer.Done 0 0 ⌝ }
+    ensures { λ r. ⌜ r ≡ Answer.Done 0 0 0 ⌝ }
 {
     Answer::Done {
+        place: 0,
         first: 0,
         second: 0,
     }
@@ -40,7 +41,8 @@ pub fn reset(kinds: &[u8], states: &mut [u8]) -> Answer
     }
 }
 
-// Takes one unit step, and answers with the number of nodes whose state differs after it.
+// Takes one unit step, and answers with the first node whose state differs after it, or the number of nodes where none does, and with how
+// many differ.
 pub fn step(
     kinds: &[u8],
     states: &mut [u8],
@@ -67,7 +69,8 @@ pub fn step(
     }
 }
 
-// Makes a unit run: the changes are entered, then steps follow until nothing moves, or to the limit. The limit 0 stands for the default.
+// Makes a unit run: the changes are entered, then steps follow until nothing moves, or to the limit; there it answers with the first node
+// that the next step would change. The limit 0 stands for the default.
 pub fn unit_run(
     kinds: &[u8],
     states: &mut [u8],

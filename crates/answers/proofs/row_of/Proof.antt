@@ -9,7 +9,7 @@ use Rattle.answers.proofs.row_of.Statement.{statement}
 use Rattle.answers.proofs.row_of.Tie as tie
 
 row-parts : (a : Answer) → row a ≡ number a ∷ place a ∷ firstCount a ∷ secondCount a ∷ []
-row-parts (Done k l) = refl
+row-parts (Done p k l) = refl
 row-parts Size = refl
 row-parts Limit = refl
 row-parts (Kind p) = refl
@@ -17,7 +17,7 @@ row-parts (Wire p) = refl
 row-parts (State p) = refl
 row-parts (Change p) = refl
 row-parts Start = refl
-row-parts (Oscillates k) = refl
+row-parts (Oscillates p k) = refl
 
 number-of-requires : tie.Need-number-of-requires
 number-of-requires c κs = search needs

@@ -2,18 +2,17 @@
 use Prim.Native.Nat.{_-_, _≤_}
 use native.Mathlib.Nat.{le-antisymm}
 use native.Mathlib.Omega.{arith}
-use mathlib.Core.Bool.{not}
 use mathlib.Core.Path.{_≡_, refl}
-use lib.Dec.{eqb}
 use lib.ListN.{length}
 use borrow.Author.Needs.{needs}
-use Rattle.model.specs.Places.{at, count}
+use Rattle.model.specs.Places.{count}
+use Rattle.model.specs.Run.{changed}
 use Rattle.basis.proofs.Altered.{one-few, count-few, count-more, count-end}
 use Rattle.cells.proofs.differing.Statement.{statement}
 use Rattle.cells.proofs.differing.Tie as tie
 
 abbrev Inv-loop : tie.InvT-loop
-Inv-loop states work k₀ node₀ k node = (node ≤ length states) × (k ≡ count node (λ i. not (eqb (at work i) (at states i))))
+Inv-loop states work k₀ node₀ k node = (node ≤ length states) × (k ≡ count node (changed states work))
 
 abbrev μ-loop : tie.MeasureT-loop
 μ-loop states work k₀ node₀ k node = length states - node
@@ -21,11 +20,11 @@ abbrev μ-loop : tie.MeasureT-loop
 loop-holds : tie.Need-loop-holds Inv-loop μ-loop
 loop-holds c = (omega arith, refl)
 
-mul-differs : tie.Need-mul-differs Inv-loop μ-loop
-mul-differs c = search needs
-
 shared-slice-read-differs : tie.Need-shared-slice-read-differs Inv-loop μ-loop
 shared-slice-read-differs c = search needs
+
+mul-differs : tie.Need-mul-differs Inv-loop μ-loop
+mul-differs c = search needs
 
 shared-slice-read-differs-2 : tie.Need-shared-slice-read-differs-2 Inv-loop μ-loop
 shared-slice-read-differs-2 c = search needs
@@ -61,8 +60,8 @@ differing-spec =
     Inv-loop
     μ-loop
     loop-holds
-    mul-differs
     shared-slice-read-differs
+    mul-differs
     shared-slice-read-differs-2
     differs-requires
     add-k
