@@ -11,15 +11,16 @@
    initialise, to allocate or to free. No table, however malformed, makes a
    call trap or run on: each call checks what it is lent and refuses what it
    cannot take, with a number that says why and, where an entry of a table is
-   at fault, a place that says which.
+   at fault, a place that says which. A loop that never settles is told as such,
+   with a node of it.
 
    This file is the manual. It has, in this order:
 
        1  an example                     6  the answers
-       2  the tables                     7  buffers, NULL, threads
-       3  how a transistor stands        8  the five calls
-       4  one step                       9  costs
-       5  runs
+       2  the tables                     7  hunting a loop
+       3  how a transistor stands        8  buffers, NULL, threads
+       4  one step                       9  the five calls
+       5  runs                          10  costs
 
 
    1  AN EXAMPLE
@@ -215,7 +216,7 @@ enum {
    always the first one. A call tests only what it is lent.
 
    After answers 1 to 7 the node states are as they came and both counts are 0.
-   The place is 0 unless the list says otherwise.
+   The place is 0 unless the list or the call says otherwise.
 
    Work area (step and both runs): after answers 0, 7 and 8 the first
    TWISTDORY_WORK_CELLS(nodes, transistors) cells are 0 and the rest is as it
@@ -223,7 +224,8 @@ enum {
    before a call does not matter.
 */
 enum twistdory_answer {
-    /* the call did what it says */
+    /* the call did what it says; place, after a step: the lowest node that it
+       changed, or the number of nodes if it changed none */
     TWISTDORY_DONE = 0,
     /* a length is out of bounds, lengths that should be equal are not, or the
        work area is too small */
@@ -244,12 +246,43 @@ enum twistdory_answer {
     TWISTDORY_START = 7,
     /* unit run: not settled after the limit's steps; the first count is the
        limit in force, and the states are those after exactly that many steps,
-       inputs with their new states */
+       inputs with their new states; place: the lowest node that the next step,
+       which is not taken, would change */
     TWISTDORY_OSCILLATES = 8
 };
 
 /*
-   7  BUFFERS, NULL, THREADS
+   7  HUNTING A LOOP
+
+   OSCILLATES says that the network was still moving at the limit, and its
+   place is a node that moves. First see whether it only needs more steps: a
+   further unit run, without changes, goes on from where the first one stopped.
+   If it never settles there is a loop, and single steps show it:
+
+   -  The first step's place is the node that the run named. Each further
+      step's place is the lowest node that it changed, and its first count says
+      how many it changed.
+   -  Keep a copy of the states and step on until they come back: the loop has
+      then come round, and every node that changed on the way is in a loop or
+      moves with one. (If they do not come back, the network was still on its
+      way into the loop, or several loops run at once: keep a later copy.)
+   -  Where a step changes one node alone, the places, one after the other, name
+      the nodes of the loop in the order in which the change passes them.
+   -  A place equal to the number of nodes says that nothing moved: the network
+      is settled after all.
+
+   The node that OSCILLATES names is never an input. What drives it are the
+   transistors that have it as source or drain, by their gates. What
+   examples/loop.c prints of a NAND gate and two inverters in a ring:
+
+       not settled after 1000 steps; the next moves second
+       second to 0, and 1 more with it
+       third to 1
+       nand to 0
+       ...
+
+
+   8  BUFFERS, NULL, THREADS
 
    Lengths     A table passes as a pointer and then its length in elements,
                not in bytes. Any length may be passed: a wrong one is refused,
@@ -268,12 +301,12 @@ enum twistdory_answer {
                calls on different tables may run at the same time.
 
 
-   8  THE FIVE CALLS
+   9  THE FIVE CALLS
 */
 
 /*
    Check: tests the kinds and the transistor tables and does nothing else.
-   Answers: DONE, SIZE, KIND, WIRE. Counts: 0 and 0.
+   Answers: DONE, SIZE, KIND, WIRE. Place after DONE, and counts: 0.
 */
 void twistdory_check(const uint8_t *kinds, size_t kinds_length,
                      const uint8_t *types, size_t types_length,
@@ -285,7 +318,7 @@ void twistdory_check(const uint8_t *kinds, size_t kinds_length,
 /*
    Reset: every state becomes X, the inputs' too. The old states are not
    tested: any bytes are overwritten.
-   Answers: DONE, SIZE, KIND. Counts: 0 and 0.
+   Answers: DONE, SIZE, KIND. Place after DONE, and counts: 0.
 */
 void twistdory_reset(const uint8_t *kinds, size_t kinds_length,
                      uint8_t *states, size_t states_length,
@@ -294,8 +327,9 @@ void twistdory_reset(const uint8_t *kinds, size_t kinds_length,
 /*
    Step: takes one step.
    Answers: DONE, SIZE, KIND, WIRE, STATE.
-   First count: the number of nodes whose state differs after the step (0 tells
-   that the network was settled). Second count: 0.
+   Place after DONE: the lowest node whose state differs after the step; the
+   number of nodes if none does, which tells that the network was settled.
+   First count: how many nodes differ. Second count: 0.
    States after DONE: those after the step.
 */
 void twistdory_step(const uint8_t *kinds, size_t kinds_length,
@@ -314,6 +348,8 @@ void twistdory_step(const uint8_t *kinds, size_t kinds_length,
    First count: the least number of steps after which the network is settled;
    after OSCILLATES the limit in force, which is the default if 0 was passed.
    A network that settles in exactly the limit's steps is DONE. Second count: 0.
+   Place after DONE: 0. After OSCILLATES: the lowest node that the next step
+   would change; twistdory_step from there gives the same place.
    States after DONE: settled. After OSCILLATES: after exactly the limit's
    steps; a further call goes on from there.
 */
@@ -333,8 +369,8 @@ void twistdory_unit_run(const uint8_t *kinds, size_t kinds_length,
    Ternary run: from a settled network, changed inputs first at X, then at
    their new states, each time until settled.
    Answers: DONE, SIZE, KIND, WIRE, STATE, CHANGE, START.
-   First and second count: the least number of steps that settles the first
-   and the second half.
+   Place after DONE: 0. First and second count: the least number of steps that
+   settles the first and the second half.
    States after DONE: settled, with the inputs at their new states.
    An input may be changed to the state that it has: it is then not put at X.
 */
@@ -350,7 +386,7 @@ void twistdory_ternary_run(const uint8_t *kinds, size_t kinds_length,
                            uint32_t answer[4]);
 
 /*
-   9  COSTS
+   10  COSTS
 
    Every call ends, whatever it is lent. A step fills at most three tables of
    one cell a node, each by sweeps over all transistors until a sweep alters
