@@ -11,8 +11,8 @@
    initialise, to allocate or to free. No table, however malformed, makes a
    call trap or run on: each call checks what it is lent and refuses what it
    cannot take, with a number that says why and, where an entry of a table is
-   at fault, a place that says which. A loop that never settles is told as such,
-   with a node of it.
+   at fault, a place that says which. A run that does not settle is told as
+   such, with a node that is still moving.
 
    This file is the manual. It has, in this order:
 
@@ -264,15 +264,16 @@ enum twistdory_answer {
       how many it changed.
    -  Keep a copy of the states and step on until they come back: the loop has
       then come round, and every node that changed on the way is in a loop or
-      moves with one. (If they do not come back, the network was still on its
-      way into the loop, or several loops run at once: keep a later copy.)
-   -  Where a step changes one node alone, the places, one after the other, name
-      the nodes of the loop in the order in which the change passes them.
+      moves with one. (If they are long in coming back, the network may have
+      been on its way into the loop, and a later copy serves; or several loops
+      run at once.)
+   -  Where each step changes one node alone, the places, one after the other,
+      name the nodes of the loop in the order in which the change passes them.
    -  A place equal to the number of nodes says that nothing moved: the network
       is settled after all.
 
-   The node that OSCILLATES names is never an input. What drives it are the
-   transistors that have it as source or drain, by their gates. What
+   The node that OSCILLATES names is never an input. What drives it comes
+   through the transistors that have it as source or drain. What
    examples/loop.c prints of a NAND gate and two inverters in a ring:
 
        not settled after 1000 steps; the next moves second

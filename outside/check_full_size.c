@@ -43,7 +43,7 @@ static void expect_still(struct call *call, struct dice *dice)
     expect(call, DONE, place, brute_step, dice);
 }
 
-/* A unit run's answer, with the count that is wanted. */
+/* An answer with the first count that is wanted. */
 static void expect_count(struct call *call, uint32_t number, uint32_t place, uint32_t count,
                          struct dice *dice)
 {
@@ -161,14 +161,14 @@ static void change_lists(enum entry entry, struct dice *dice)
    1 but for two of them, or one, or none. */
 static void first_changed_nodes(struct dice *dice)
 {
-    static const size_t low[][2] = {{0, 0}, {0, 1}, {1, MOST_NODES - 1}, {MOST_NODES - 2, MOST_NODES - 1},
-                                    {MOST_NODES - 1, MOST_NODES - 1}};
+    enum { LAST = MOST_NODES - 1 };
+    static const uint32_t low[][2] = {{0, 0}, {0, 1}, {1, LAST}, {LAST - 1, LAST}, {LAST, LAST}};
     for (size_t k = 0; k < sizeof low / sizeof *low; k++) {
+        uint32_t first = low[k][0], second = low[k][1];
         struct call call = plain_call(ENTRY_STEP, MOST_NODES, 0, PULLUP);
         memset(call.states.at, HIGH, MOST_NODES);
-        call.states.at[low[k][0]] = call.states.at[low[k][1]] = LOW;
-        if (expect(&call, DONE, (uint32_t)low[k][0], brute_step, dice) != 1 + (low[k][0] < low[k][1]))
-            door_difference("brute force does not give the count wanted");
+        call.states.at[first] = call.states.at[second] = LOW;
+        expect_count(&call, DONE, first, first == second ? 1 : 2, dice);
     }
     struct call call = plain_call(ENTRY_STEP, MOST_NODES, 0, PULLUP);
     memset(call.states.at, HIGH, MOST_NODES);

@@ -18,6 +18,7 @@ use Rattle.model.specs.Entries.{unitOutcome}
 use Rattle.model.specs.Demands.{Clean, Enterable}
 use Rattle.laws.proofs.Descent.{iter-keeps}
 use Rattle.laws.proofs.Judged.{any-none, level-at}
+use Rattle.laws.proofs.Cover.{set-at}
 use Rattle.laws.proofs.Changes.{length-put, clean-changes}
 use Rattle.laws.proofs.RuleOne.{stepper, step-known}
 use Rattle.laws.proofs.Demands.{unit-runs, unit-settles, unit-at-limit}
@@ -27,11 +28,7 @@ abbrev Known : List ℕ → Type 0
 Known s = (v : ℕ) → at s v ≤ highestState
 
 set-known : (s : List ℕ) (p x : ℕ) → Known s → x ≤ highestState → Known (set s p x)
-set-known [] p x h k v = h v
-set-known (y ∷ s) zero x h k zero = k
-set-known (y ∷ s) zero x h k (suc v) = h (suc v)
-set-known (y ∷ s) (suc p) x h k zero = h zero
-set-known (y ∷ s) (suc p) x h k (suc v) = set-known s p x (λ u. h (suc u)) k v
+set-known s p x h k v = elim (set-at s p x v) [ inl e ↦ omega (arith, e, h v) | inr r ↦ omega (arith, r .1, k) ]
 
 put-known : (s ps vs : List ℕ) → Known s → ((e : ℕ) → e < length ps → at vs e ≤ highestState) → Known (put s ps vs)
 put-known s [] vs h k = h

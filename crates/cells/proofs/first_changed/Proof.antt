@@ -7,17 +7,12 @@ use borrow.Author.Count.{below-more}
 use borrow.Author.Needs.{needs}
 use borrow.Author.Tests.{eq-eqb}
 use lib.ListN.{length}
-use mir.Syntax.{w8, w16}
-use mir.Val.{Fits}
+use mir.Facts.{fits-8-16}
 use Rattle.model.specs.Run.{changed}
 use Rattle.basis.proofs.Finding.{NoneBelow, none-yet}
 use Rattle.basis.proofs.Altered.{first-here, first-nowhere}
 use Rattle.cells.proofs.first_changed.Statement.{statement}
 use Rattle.cells.proofs.first_changed.Tie as tie
-
--- a state is a byte, so it fits in 16 bits
-byte-fits : {x : ℕ} → Fits w8 x → Fits w16 x
-byte-fits h = omega (arith, h)
 
 abbrev Inv-loop : tie.InvT-loop
 Inv-loop states work node₀ node = (node ≤ length states) × NoneBelow (changed states work) node
@@ -32,7 +27,7 @@ shared-slice-read-if1 : tie.Need-shared-slice-read-if1 Inv-loop μ-loop
 shared-slice-read-if1 c = search needs
 
 cast-if1 : tie.Need-cast-if1 Inv-loop μ-loop
-cast-if1 c = byte-fits (c .shared-slice-known .given _)
+cast-if1 c = fits-8-16 (c .shared-slice-known .given _)
 
 mul-if1 : tie.Need-mul-if1 Inv-loop μ-loop
 mul-if1 c = search needs
