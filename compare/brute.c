@@ -10,13 +10,18 @@
 #include <string.h>
 
 enum { LOW, HIGH, UNKNOWN };
-enum { NORMAL, PULLUP, INPUT };
+enum { NORMAL, PULLUP, INPUT, GROUND, POWER };
 enum { N_TYPE, P_TYPE, D_TYPE };
 enum { DONE, SIZE, LIMIT, KIND, WIRE, STATE, CHANGE, START, OSCILLATES };
 enum { MOST_NODES = 4096, MOST_TRANSISTORS = 8192, MOST_CHANGES = 4096 };
 enum { DEFAULT_LIMIT = 1000, MOST_LIMIT = 10000 };
 
 /* ---- one step ---- */
+
+static bool is_input(uint8_t kind)
+{
+    return kind == INPUT || kind == GROUND || kind == POWER;
+}
 
 enum standing { OPEN, CLOSED, EITHER };
 
@@ -40,7 +45,7 @@ static void join_sets(const struct call *net, const bool *closed)
         set_of[v] = (uint16_t)v;
     for (size_t i = 0; i < net->types.length; i++) {
         uint16_t a = net->sources.at[i], b = net->drains.at[i];
-        if (!closed[i] || net->kinds.at[a] == INPUT || net->kinds.at[b] == INPUT)
+        if (!closed[i] || is_input(net->kinds.at[a]) || is_input(net->kinds.at[b]))
             continue;
         uint16_t kept = set_of[a], dropped = set_of[b];
         if (kept == dropped)
@@ -51,8 +56,9 @@ static void join_sets(const struct call *net, const bool *closed)
     }
 }
 
-/* What is known of a set: the strongest kind of source met in it so far, and
-   whether sources of that kind with state 0, with 1 and with X were met. */
+/* What is known of a set: the strongest kind of source met in it so far, a rail
+   counting as an input, and whether sources of that kind with state 0, with 1 and
+   with X were met. */
 static struct sources {
     uint8_t kind;
     bool met[3];
@@ -79,7 +85,7 @@ static void gather_sources(const struct call *net, const uint8_t *before, const 
     }
     for (size_t i = 0; i < net->types.length; i++) {
         uint16_t a = net->sources.at[i], b = net->drains.at[i];
-        bool a_is_input = net->kinds.at[a] == INPUT, b_is_input = net->kinds.at[b] == INPUT;
+        bool a_is_input = is_input(net->kinds.at[a]), b_is_input = is_input(net->kinds.at[b]);
         if (closed[i] && a_is_input && !b_is_input)
             add_source(set_of[b], INPUT, before[a]);
         if (closed[i] && b_is_input && !a_is_input)
@@ -121,7 +127,7 @@ void brute_step(const struct call *net, const uint8_t *before, uint8_t *after)
         join_sets(net, closed);
         gather_sources(net, before, closed);
         for (size_t v = 0; v < net->kinds.length; v++) {
-            if (net->kinds.at[v] == INPUT)
+            if (is_input(net->kinds.at[v]))
                 continue;
             uint8_t given = state_of_set(set_of[v]);
             if (choice == 0)
@@ -164,7 +170,7 @@ static bool wire_fits(const struct call *call, size_t i)
 static bool change_fits(const struct call *call, size_t i)
 {
     uint16_t node = call->change_nodes.at[i];
-    if (node >= call->kinds.length || call->kinds.at[node] != INPUT
+    if (node >= call->kinds.length || !is_input(call->kinds.at[node])
         || call->change_states.at[i] > UNKNOWN)
         return false;
     for (size_t earlier = 0; earlier < i; earlier++)
@@ -196,7 +202,7 @@ static uint32_t refusal(brute_stepper *step, const struct call *call, uint32_t *
     if (entry == ENTRY_UNIT_RUN && call->limit > MOST_LIMIT)
         return LIMIT;
     for (size_t v = 0; v < call->kinds.length; v++)
-        if (call->kinds.at[v] > INPUT)
+        if (call->kinds.at[v] > POWER)
             return refuse(KIND, v, place);
     for (size_t i = 0; entry_takes_transistors(entry) && i < call->types.length; i++)
         if (!wire_fits(call, i))
@@ -237,6 +243,17 @@ static uint32_t first_changed(const uint8_t *before, const uint8_t *after, size_
         if (before[v] != after[v])
             lowest = v;
     return (uint32_t)lowest;
+}
+
+static void reset(struct call *call)
+{
+    memset(call->states.at, UNKNOWN, call->states.length);
+    for (size_t v = 0; v < call->kinds.length; v++) {
+        if (call->kinds.at[v] == GROUND)
+            call->states.at[v] = LOW;
+        if (call->kinds.at[v] == POWER)
+            call->states.at[v] = HIGH;
+    }
 }
 
 static void one_step(brute_stepper *step, struct call *call, uint32_t answer[4])
@@ -289,7 +306,7 @@ void brute_answer_by(brute_stepper *step, struct call *call, uint32_t answer[4])
     answer[0] = refusal(step, call, &answer[1]);
     if (answer[0] == DONE) {
         if (call->entry == ENTRY_RESET)
-            memset(call->states.at, UNKNOWN, call->states.length);
+            reset(call);
         if (call->entry == ENTRY_STEP)
             one_step(step, call, answer);
         if (call->entry == ENTRY_UNIT_RUN)

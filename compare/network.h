@@ -5,6 +5,8 @@
 #ifndef COMPARE_NETWORK_H
 #define COMPARE_NETWORK_H
 
+#include <stdbool.h>
+
 #include "call.h"
 #include "dice.h"
 
@@ -16,7 +18,7 @@ struct storage {
     uint16_t work[LONGEST];
 };
 
-enum { NORMAL, PULLUP, INPUT };
+enum { NORMAL, PULLUP, INPUT, GROUND, POWER };
 enum { LOW, HIGH, UNKNOWN };
 enum { N_TYPE, P_TYPE, D_TYPE };
 
@@ -24,7 +26,9 @@ enum { N_TYPE, P_TYPE, D_TYPE };
    changes, limit 0 and a work area of exactly the size needed. */
 struct call network_call(struct storage *storage, size_t nodes, size_t transistors);
 
-void network_kinds(struct call *call, const char *letters);  /* I, P and N */
+bool network_is_input(uint8_t kind); /* an input or a rail */
+
+void network_kinds(struct call *call, const char *letters);  /* N, P, I, G and V (power) */
 void network_states(struct call *call, const char *letters); /* 0, 1 and X */
 void network_transistor(struct call *call, size_t i, uint8_t type, uint16_t gate,
                         uint16_t source, uint16_t drain);

@@ -52,15 +52,21 @@ static void *room(size_t count, size_t size)
 
 /* ---- the network's lists ---- */
 
+/* An input or a rail. */
+static bool is_input(uint8_t kind)
+{
+    return kind >= INPUT;
+}
+
 static void count_way(struct plain *plain, uint16_t from, uint16_t to)
 {
-    if (plain->network.kinds[to] != INPUT)
+    if (!is_input(plain->network.kinds[to]))
         plain->first_way[from]++;
 }
 
 static void enter_way(struct plain *plain, size_t transistor, uint16_t from, uint16_t to)
 {
-    if (plain->network.kinds[to] != INPUT)
+    if (!is_input(plain->network.kinds[to]))
         plain->ways[--plain->first_way[from]] = (struct way){(uint16_t)transistor, to};
 }
 
@@ -119,7 +125,7 @@ static uint8_t standing_of(uint8_t type, uint8_t gate)
 
 static uint8_t strength_of(uint8_t kind)
 {
-    return kind == INPUT ? 3 : kind == PULLUP ? 2 : 1;
+    return is_input(kind) ? 3 : kind == PULLUP ? 2 : 1;
 }
 
 static uint8_t source_state(const struct plain *plain, const uint8_t *states, size_t v)
@@ -183,7 +189,7 @@ size_t plain_step(struct plain *plain, const uint8_t *states, uint8_t *next)
     size_t differing = 0;
     for (size_t v = 0; v < network->nodes; v++) {
         uint8_t state = states[v];
-        if (network->kinds[v] != INPUT)
+        if (!is_input(network->kinds[v]))
             state = plain->against_low[v] == NOTHING    ? LOW
                     : plain->against_high[v] == NOTHING ? HIGH
                                                         : UNKNOWN;

@@ -7,7 +7,7 @@
 
 #include "dice.h"
 
-enum { NORMAL, PULLUP, INPUT };
+enum { NORMAL, PULLUP, INPUT, GROUND, POWER };
 enum { LOW, HIGH, UNKNOWN };
 enum { N_TYPE, P_TYPE, D_TYPE };
 
@@ -30,14 +30,29 @@ static uint16_t node(struct shape *shape, uint8_t kind)
     return (uint16_t)shape->nodes++;
 }
 
-static uint16_t input(struct shape *shape, uint8_t state)
+static uint16_t node_at(struct shape *shape, uint8_t kind, uint8_t state)
 {
-    uint16_t made = node(shape, INPUT);
+    uint16_t made = node(shape, kind);
     shape->states[made] = state;
     return made;
 }
 
-/* The same, and the input that is to be changed. */
+static uint16_t input(struct shape *shape, uint8_t state)
+{
+    return node_at(shape, INPUT, state);
+}
+
+static uint16_t ground_rail(struct shape *shape)
+{
+    return node_at(shape, GROUND, LOW);
+}
+
+static uint16_t power_rail(struct shape *shape)
+{
+    return node_at(shape, POWER, HIGH);
+}
+
+/* An input, and the one that is to be changed. */
 static uint16_t changed_input(struct shape *shape, uint8_t state)
 {
     return shape->changed = input(shape, state);
@@ -70,7 +85,7 @@ static uint16_t inverter(struct shape *shape, uint16_t ground, uint16_t gate)
 void shape_inverter_chain(struct shape *shape, size_t inverters)
 {
     begin(shape, "inverter chain %zu", inverters);
-    uint16_t ground = input(shape, LOW), last = changed_input(shape, LOW);
+    uint16_t ground = ground_rail(shape), last = changed_input(shape, LOW);
     for (size_t k = 0; k < inverters; k++)
         last = inverter(shape, ground, last);
 }
@@ -99,7 +114,7 @@ void shape_pass_chain(struct shape *shape, size_t nodes, uint64_t seed)
 void shape_shift_register(struct shape *shape, size_t stages)
 {
     begin(shape, "shift register %zu stages", stages);
-    uint16_t ground = input(shape, LOW), last = input(shape, HIGH);
+    uint16_t ground = ground_rail(shape), last = input(shape, HIGH);
     uint16_t phase[2] = {changed_input(shape, LOW), input(shape, LOW)};
     for (size_t k = 0; k < 2 * stages; k++) {
         uint16_t stored = node(shape, NORMAL);
@@ -115,7 +130,7 @@ void shape_nor_decoder(struct shape *shape, size_t bits)
 {
     uint16_t lines[16][2];
     begin(shape, "NOR decoder %zu bits", bits);
-    uint16_t ground = input(shape, LOW);
+    uint16_t ground = ground_rail(shape);
     for (size_t bit = 0; bit < bits; bit++) {
         lines[bit][1] = bit == 0 ? changed_input(shape, LOW) : input(shape, LOW);
         lines[bit][0] = inverter(shape, ground, lines[bit][1]);
@@ -132,7 +147,7 @@ void shape_nor_decoder(struct shape *shape, size_t bits)
 void shape_pass_tree(struct shape *shape, size_t bits)
 {
     begin(shape, "pass-tree decoder %zu bits", bits);
-    uint16_t ground = input(shape, LOW), root = input(shape, HIGH);
+    uint16_t ground = ground_rail(shape), root = power_rail(shape);
     size_t first = 0, count = 1;
     for (size_t bit = 0; bit < bits; bit++) {
         uint16_t line = bit == 0 ? changed_input(shape, LOW) : input(shape, LOW);
@@ -157,7 +172,7 @@ void shape_row_decoder(struct shape *shape, size_t rows, size_t rested)
     enum { PAIRS = 5 };
     uint16_t lines[PAIRS][4];
     begin(shape, "row decoder %zu rows", rows);
-    uint16_t ground = input(shape, LOW), clock = input(shape, HIGH);
+    uint16_t ground = ground_rail(shape), clock = input(shape, HIGH);
     uint16_t resting = inverter(shape, ground, clock);
     for (size_t pair = 0; pair < PAIRS; pair++) {
         uint16_t low = pair == 0 ? changed_input(shape, LOW) : input(shape, LOW);
@@ -200,7 +215,7 @@ static uint16_t nand(struct shape *shape, uint16_t ground, uint16_t power, uint1
 void shape_adder(struct shape *shape, size_t bits)
 {
     begin(shape, "static CMOS adder %zu bits", bits);
-    uint16_t ground = input(shape, LOW), power = input(shape, HIGH);
+    uint16_t ground = ground_rail(shape), power = power_rail(shape);
     uint16_t carry = changed_input(shape, LOW);
     for (size_t bit = 0; bit < bits; bit++) {
         uint16_t a = input(shape, HIGH), b = input(shape, LOW);
@@ -214,26 +229,35 @@ void shape_adder(struct shape *shape, size_t bits)
     }
 }
 
-/* Kinds, types and wires at random, with inputs at the gates more often than not:
-   without them nearly everything is X. */
+/* One of the kinds at random, an input or a rail in one case of twenty. */
+static void random_node(struct shape *shape, struct dice *dice)
+{
+    uint32_t drawn = dice_below(dice, 60);
+    if (drawn == 0)
+        ground_rail(shape);
+    else if (drawn == 1)
+        power_rail(shape);
+    else if (drawn == 2)
+        input(shape, (uint8_t)dice_below(dice, 2));
+    else
+        node(shape, drawn < 15 ? PULLUP : NORMAL);
+}
+
+/* Kinds, types and wires at random, with inputs and rails at the gates more often
+   than not: without them nearly everything is X. */
 void shape_random(struct shape *shape, size_t nodes, size_t transistors, uint64_t seed)
 {
     struct dice dice = dice_for(seed, nodes);
     begin(shape, "random %zu", nodes);
     uint32_t count = (uint32_t)nodes;
     changed_input(shape, LOW); /* the benchmark looks for a better one */
-    while (shape->nodes < nodes) {
-        uint32_t drawn = dice_below(&dice, 20);
-        if (drawn == 0)
-            input(shape, (uint8_t)dice_below(&dice, 2));
-        else
-            node(shape, drawn < 5 ? PULLUP : NORMAL);
-    }
+    while (shape->nodes < nodes)
+        random_node(shape, &dice);
     while (shape->transistors < transistors) {
         uint8_t type = (uint8_t)(dice_below(&dice, 10) == 0 ? D_TYPE : dice_below(&dice, 2));
         uint16_t gate = (uint16_t)dice_below(&dice, count);
         bool from_input = dice_below(&dice, 4) > 0;
-        while (from_input && shape->kinds[gate] != INPUT)
+        while (from_input && shape->kinds[gate] < INPUT)
             gate = (uint16_t)dice_below(&dice, count);
         uint16_t source = (uint16_t)dice_below(&dice, count);
         transistor(shape, type, gate, source, (uint16_t)dice_below(&dice, count));

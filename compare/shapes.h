@@ -16,7 +16,7 @@ struct shape {
     size_t nodes, transistors;
     uint8_t kinds[SHAPE_NODES], types[SHAPE_TRANSISTORS];
     uint16_t gates[SHAPE_TRANSISTORS], sources[SHAPE_TRANSISTORS], drains[SHAPE_TRANSISTORS];
-    uint8_t states[SHAPE_NODES]; /* to start from: inputs 0 or 1, most others X */
+    uint8_t states[SHAPE_NODES]; /* to start from: inputs and rails 0 or 1, most others X */
     uint16_t changed;            /* the input to change */
 };
 

@@ -104,11 +104,16 @@ extern "C" {
    work           room for the call's own use, in 16-bit cells.
 */
 
-/* Kinds of nodes, weakest first. */
+/* Kinds of nodes. The last three are inputs, and "input" means all of them
+   throughout this manual: they drive alike, and a change may name any of them.
+   What sets the rails, GROUND and POWER, apart is that reset brings them up
+   live; a state that is lent, or a change, may give a rail any state. */
 enum {
     TWISTDORY_NORMAL = 0, /* keeps its state as charge when nothing drives it */
     TWISTDORY_PULLUP = 1, /* drawn to 1 unless an input drives it */
-    TWISTDORY_INPUT = 2   /* ground, power, clocks, data: altered by changes alone */
+    TWISTDORY_INPUT = 2,  /* clocks, data: altered by changes alone; X by reset */
+    TWISTDORY_GROUND = 3, /* the same, but 0 by reset */
+    TWISTDORY_POWER = 4   /* the same, but 1 by reset */
 };
 
 /* States of nodes. */
@@ -119,8 +124,8 @@ enum {
 };
 
 /* Types of transistors. A depletion load, which an input can pull down, is no D
-   transistor: make the node that it loads a PULLUP. A D transistor from a power
-   input drives as hard as any input does. */
+   transistor: make the node that it loads a PULLUP. A D transistor from POWER
+   drives as hard as any input does. */
 enum {
     TWISTDORY_N = 0, /* closed when its gate is 1 */
     TWISTDORY_P = 1, /* closed when its gate is 0 */
@@ -232,7 +237,7 @@ enum twistdory_answer {
     TWISTDORY_SIZE = 1,
     /* unit run: the limit is above TWISTDORY_MAX_LIMIT */
     TWISTDORY_LIMIT = 2,
-    /* a kind above 2; place: the node */
+    /* a kind above 4; place: the node */
     TWISTDORY_KIND = 3,
     /* a type above 2, or a gate, source or drain that is no node; place: the
        transistor */
@@ -317,8 +322,9 @@ void twistdory_check(const uint8_t *kinds, size_t kinds_length,
                      uint32_t answer[4]);
 
 /*
-   Reset: every state becomes X, the inputs' too. The old states are not
-   tested: any bytes are overwritten.
+   Reset: the rails come up live, each GROUND at 0 and each POWER at 1, and all
+   other nodes at X, an INPUT too: a first run needs changes for its data and
+   clocks alone. The old states are not tested: any bytes are overwritten.
    Answers: DONE, SIZE, KIND. Place after DONE, and counts: 0.
 */
 void twistdory_reset(const uint8_t *kinds, size_t kinds_length,

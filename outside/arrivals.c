@@ -117,9 +117,9 @@ static void one_network(uint64_t seed, uint64_t number)
     uint8_t start[MOST_NODES];
 
     network_random(&call, &dice);
-    call.kinds.at[dice_below(&dice, (uint32_t)nodes)] = INPUT;
+    call.kinds.at[dice_below(&dice, (uint32_t)nodes)] = (uint8_t)(INPUT + dice_below(&dice, 3));
     for (size_t v = 0; v < nodes; v++)
-        inputs += call.kinds.at[v] == INPUT;
+        inputs += network_is_input(call.kinds.at[v]);
 
     /* a settled start: where random states lead, or else where X leads */
     network_random_states(&call, &dice);
@@ -127,7 +127,7 @@ static void one_network(uint64_t seed, uint64_t number)
     brute_answer(&call, answer);
     if (answer[0] != 0) {
         for (size_t v = 0; v < nodes; v++)
-            if (call.kinds.at[v] != INPUT)
+            if (!network_is_input(call.kinds.at[v]))
                 call.states.at[v] = UNKNOWN;
         brute_answer(&call, answer);
     }

@@ -36,19 +36,19 @@ static uint32_t expect(struct call *call, uint32_t number, uint32_t place, brute
     return answer[2];
 }
 
-/* DONE where no state is altered: a step has the number of nodes as its place. */
-static void expect_still(struct call *call, struct dice *dice)
-{
-    uint32_t place = call->entry == ENTRY_STEP ? (uint32_t)call->kinds.length : 0;
-    expect(call, DONE, place, brute_step, dice);
-}
-
 /* An answer with the first count that is wanted. */
 static void expect_count(struct call *call, uint32_t number, uint32_t place, uint32_t count,
                          struct dice *dice)
 {
     if (expect(call, number, place, brute_step, dice) != count)
         door_difference("brute force does not give the count wanted");
+}
+
+/* DONE where no step alters a state: a step has the number of nodes as its place. */
+static void expect_still(struct call *call, struct dice *dice)
+{
+    uint32_t place = call->entry == ENTRY_STEP ? (uint32_t)call->kinds.length : 0;
+    expect_count(call, DONE, place, 0, dice);
 }
 
 /* A network of nodes of one kind in state 0 and n transistors from node 0 to node 0. */
@@ -94,11 +94,35 @@ static void lengths_of_one_entry(enum entry entry, struct dice *dice)
         call.work.length = 0;
         expect(&call, SIZE, 0, brute_step, dice);
     }
-    if (entry == ENTRY_RESET) {
-        call = plain_call(entry, MOST_NODES, 0, PULLUP);
+}
+
+/* Reset, of every kind and from every byte. */
+static void reset_of_every_kind(struct dice *dice)
+{
+    static const uint8_t wanted[] = {UNKNOWN, UNKNOWN, UNKNOWN, LOW, HIGH};
+    struct call call = plain_call(ENTRY_RESET, MOST_NODES, 0, NORMAL);
+    for (size_t v = 0; v < MOST_NODES; v++) {
+        call.kinds.at[v] = (uint8_t)(v % 5);
+        call.states.at[v] = (uint8_t)v;
+    }
+    expect(&call, DONE, 0, brute_step, dice);
+    for (size_t v = 0; v < MOST_NODES; v++)
+        if (call.states.at[v] != wanted[v % 5])
+            door_difference("reset does not give a node what its kind is to have");
+}
+
+/* Nothing moves where all nodes are inputs, rails or others: a unit run is done
+   with no step. */
+static void inputs_only(enum entry entry, struct dice *dice)
+{
+    for (uint8_t kind = INPUT; kind <= POWER; kind++) {
+        struct call call = plain_call(entry, MOST_NODES, MOST_TRANSISTORS, kind);
+        for (size_t i = 0; i < MOST_TRANSISTORS; i++)
+            network_transistor(&call, i, D_TYPE, 0, (uint16_t)(i % MOST_NODES),
+                               (uint16_t)(i * 7 % MOST_NODES));
         for (size_t v = 0; v < MOST_NODES; v++)
-            call.states.at[v] = (uint8_t)v;
-        expect(&call, DONE, 0, brute_step, dice);
+            call.states.at[v] = (uint8_t)(v % 3);
+        expect_still(&call, dice);
     }
 }
 
@@ -107,8 +131,10 @@ static void last_places(enum entry entry, struct dice *dice)
 {
     for (uint32_t back = 1; back <= 2; back++) {
         struct call call = plain_call(entry, MOST_NODES, MOST_TRANSISTORS, NORMAL);
-        call.kinds.at[MOST_NODES - 1] = call.kinds.at[MOST_NODES - back] = 3;
+        call.kinds.at[MOST_NODES - 1] = call.kinds.at[MOST_NODES - back] = 5;
         expect(&call, KIND, MOST_NODES - back, brute_step, dice);
+        call.kinds.at[MOST_NODES - 1] = call.kinds.at[MOST_NODES - back] = POWER;
+        expect_still(&call, dice);
         if (!entry_takes_transistors(entry))
             continue;
         uint16_t *ends[3] = {storage.gates, storage.sources, storage.drains};
@@ -137,7 +163,8 @@ static void last_places(enum entry entry, struct dice *dice)
 static void change_lists(enum entry entry, struct dice *dice)
 {
     for (uint8_t state = LOW; state <= UNKNOWN; state++) {
-        struct call call = plain_call(entry, MOST_NODES, 0, INPUT);
+        /* inputs, grounds or powers */
+        struct call call = plain_call(entry, MOST_NODES, 0, (uint8_t)(INPUT + state));
         for (size_t v = 0; v < MOST_CHANGES; v++)
             network_change(&call, (uint16_t)(MOST_CHANGES - 1 - v), state);
         expect(&call, DONE, 0, brute_step, dice);
@@ -211,7 +238,7 @@ static void limits(struct dice *dice)
 static struct call ring_of_seven(enum entry entry)
 {
     struct call call = plain_call(entry, 8, 7, PULLUP);
-    call.kinds.at[0] = INPUT;
+    call.kinds.at[0] = GROUND;
     for (uint16_t v = 1; v <= 7; v++) {
         network_transistor(&call, v - 1u, N_TYPE, v == 1 ? 7 : v - 1u, 0, v);
         call.states.at[v] = v % 2 == 1 ? HIGH : LOW;
@@ -247,7 +274,8 @@ static void ring_at(uint32_t limit, uint32_t steps, struct dice *dice)
 static struct call inverters(size_t nodes)
 {
     struct call call = plain_call(ENTRY_UNIT_RUN, nodes, nodes - 2, PULLUP);
-    call.kinds.at[0] = call.kinds.at[1] = INPUT;
+    call.kinds.at[0] = GROUND;
+    call.kinds.at[1] = INPUT;
     for (size_t v = 2; v < nodes; v++) {
         network_transistor(&call, v - 2, N_TYPE, (uint16_t)(v - 1), 0, (uint16_t)v);
         call.states.at[v] = v % 2 == 0 ? HIGH : LOW;
@@ -313,11 +341,12 @@ static void default_limit(struct dice *dice)
 }
 
 /* Nodes joined in a row by transistors of the one type, listed from the near
-   end, from the far end or shuffled; node 0 is an input that drives the row. */
+   end, from the far end or shuffled; node 0, power, drives the row. */
 static struct call pass_chain(size_t nodes, uint8_t type, int order, struct dice *dice)
 {
     struct call call = plain_call(ENTRY_STEP, nodes, nodes - 2, NORMAL);
-    call.kinds.at[0] = call.kinds.at[1] = INPUT;
+    call.kinds.at[0] = POWER;
+    call.kinds.at[1] = INPUT;
     call.states.at[0] = HIGH;
     call.states.at[1] = type == N_TYPE ? HIGH : LOW;
     for (size_t i = 0; i < nodes - 2; i++) {
@@ -405,6 +434,14 @@ static void shuffle(uint16_t *numbers, size_t count, struct dice *dice)
     }
 }
 
+/* One node in eight is an input or a rail, and of the others one in three a pullup. */
+static uint8_t tile_kind(struct dice *dice)
+{
+    if (dice_below(dice, 8) == 0)
+        return (uint8_t)(INPUT + dice_below(dice, 3));
+    return dice_below(dice, 3) == 0 ? PULLUP : NORMAL;
+}
+
 /* Cuts a large network of exactly so many nodes and transistors into random tiles. */
 static struct call tiled_network(size_t nodes, size_t transistors, struct dice *dice)
 {
@@ -414,7 +451,7 @@ static struct call tiled_network(size_t nodes, size_t transistors, struct dice *
     shuffle(node_numbers, nodes, dice);
     shuffle(wire_numbers, transistors, dice);
     for (size_t v = 0; v < SHARED; v++)
-        call.kinds.at[node_numbers[v]] = INPUT;
+        call.kinds.at[node_numbers[v]] = (uint8_t)(v < 2 ? INPUT : v == 2 ? GROUND : POWER);
     for (tile_count = 0; next_node < nodes; tile_count++) {
         struct tile *tile = &tiles[tile_count];
         size_t own = 1 + dice_below(dice, TILE_NODES - SHARED);
@@ -427,8 +464,7 @@ static struct call tiled_network(size_t nodes, size_t transistors, struct dice *
             tile->node[v] = node_numbers[v];
         for (size_t v = SHARED; v < tile->nodes; v++) {
             tile->node[v] = node_numbers[next_node++];
-            call.kinds.at[tile->node[v]] = (uint8_t)(dice_below(dice, 8) == 0 ? INPUT
-                                                     : dice_below(dice, 3) == 0 ? PULLUP : NORMAL);
+            call.kinds.at[tile->node[v]] = tile_kind(dice);
         }
         for (size_t i = 0; i < tile->transistors; i++) {
             tile->types[i] = (uint8_t)(dice_below(dice, 8) == 0 ? D_TYPE : dice_below(dice, 2));
@@ -469,7 +505,7 @@ static void tiled(size_t nodes, size_t transistors, struct dice *dice)
         }
         /* from X everywhere but at the inputs every network settles */
         for (size_t v = 0; v < nodes; v++)
-            if (call.kinds.at[v] != INPUT)
+            if (!network_is_input(call.kinds.at[v]))
                 start[v] = UNKNOWN;
         memcpy(call.states.at, start, nodes);
         call.entry = ENTRY_UNIT_RUN;
@@ -486,9 +522,12 @@ void check_full_size(const struct options *options)
     for (enum entry entry = 0; entry < ENTRIES; entry++) {
         lengths_of_one_entry(entry, &dice);
         last_places(entry, &dice);
+        if (entry_takes_work(entry))
+            inputs_only(entry, &dice);
         if (entry_takes_changes(entry))
             change_lists(entry, &dice);
     }
+    reset_of_every_kind(&dice);
     first_changed_nodes(&dice);
     limits(&dice);
     default_limit(&dice);

@@ -140,7 +140,7 @@ static void find_settled(struct call *call, struct call *other, uint8_t *states,
     call->limit = 0;
     if (compare_from(call, other, ENTRY_UNIT_RUN, states, dice, answer) != 0) {
         for (size_t v = 0; v < call->kinds.length; v++)
-            if (call->kinds.at[v] != INPUT)
+            if (!network_is_input(call->kinds.at[v]))
                 states[v] = UNKNOWN;
         if (compare_from(call, other, ENTRY_UNIT_RUN, states, dice, answer) != 0)
             door_difference("a run from X does not settle");

@@ -17,14 +17,14 @@ enum { NODES = 5, TRANSISTORS = 4, CHANGES = 2 };
 
 static struct storage storage;
 
-/* A settled network: nodes 0 and 1 inputs, 2 the output of an inverter, 3 and 4
+/* A settled network: node 0 ground, 1 an input, 2 the output of an inverter, 3 and 4
    behind a pass transistor and a p transistor. Whatever a fault may have altered
    is written anew; the tables' far parts are 0 and stay so. */
 static struct call sound_call(enum entry entry)
 {
     struct call call = network_call(&storage, NODES, TRANSISTORS);
     call.entry = entry;
-    network_kinds(&call, "IIPNN");
+    network_kinds(&call, "GIPNN");
     network_states(&call, "01000");
     network_transistor(&call, 0, N_TYPE, 1, 0, 2);
     network_transistor(&call, 1, N_TYPE, 1, 2, 3);
@@ -91,12 +91,12 @@ static void wrong_limit(struct call *call, uint32_t way)
     call->limit = limits[way];
 }
 
-static const uint8_t wrong_bytes[] = {3, 4, 128, 255};
+static const uint8_t wrong_bytes[] = {3, 4, 128, 255}, wrong_kinds[] = {5, 6, 128, 255};
 
 static void wrong_kind(struct call *call, uint32_t way)
 {
     static const uint8_t nodes[] = {0, 2, 4};
-    call->kinds.at[nodes[way % 3]] = wrong_bytes[way / 3 % 4];
+    call->kinds.at[nodes[way % 3]] = wrong_kinds[way / 3 % 4];
     if (way >= 12)
         call->kinds.at[4] = 7;
 }

@@ -3,9 +3,13 @@
    unit run, and a ternary run with every list of changes in node order. No
    symmetry is used: two lists of the same transistors count as two networks.
 
-   With n nodes there are 3^n kinds, 3^n states and 3 n^3 transistors, so with
-   t transistors 9^n (3 n^3)^t cases: 4,891,545 in all. The short version takes
-   one network in so many, drawn by the seed; the long one takes all.
+   With n nodes there are 5^n kinds, 3^n states and 3 n^3 transistors, so with
+   t transistors 15^n (3 n^3)^t cases. With 3 nodes a node is normal, a pullup or
+   an input, and which of the three kinds of input it is the seed decides: what is
+   asked here treats them alike, and random networks mix them too. So there are
+   9^n (3 n^3)^t cases with 3 nodes, and 4,978,167 in all. The short version takes
+   one network of the largest size in so many, drawn by the seed; the long one
+   takes all.
 */
 #include <inttypes.h>
 #include <stdio.h>
@@ -51,12 +55,12 @@ static void every_change_list(struct call *call, const uint8_t *start, struct di
 {
     size_t inputs = 0;
     for (size_t v = 0; v < call->kinds.length; v++)
-        inputs += call->kinds.at[v] == INPUT;
+        inputs += network_is_input(call->kinds.at[v]);
     for (uint64_t list = 0; list < power(4, inputs); list++) {
         uint64_t lots = list;
         call->change_nodes.length = call->change_states.length = 0;
         for (size_t v = 0; v < call->kinds.length; v++) {
-            uint32_t lot = call->kinds.at[v] == INPUT ? take_digit(&lots, 4) : 3;
+            uint32_t lot = network_is_input(call->kinds.at[v]) ? take_digit(&lots, 4) : 3;
             if (lot < 3)
                 network_change(call, (uint16_t)v, (uint8_t)lot);
         }
@@ -79,12 +83,24 @@ static void every_state(struct call *call, struct dice *dice)
     }
 }
 
+/* How many kinds of nodes are told apart in networks of so many nodes. */
+static uint32_t kinds_with(size_t nodes)
+{
+    return nodes < MOST_NODES ? 5 : 3;
+}
+
+static uint8_t kind_by(uint32_t digit, size_t nodes, struct dice *dice)
+{
+    bool drawn = nodes == MOST_NODES && digit == INPUT;
+    return (uint8_t)(drawn ? INPUT + dice_below(dice, 3) : digit);
+}
+
 static void one_network(size_t nodes, size_t transistors, uint64_t code, struct dice *dice)
 {
     struct call call = network_call(&storage, nodes, transistors);
     call.limit = 9;
     for (size_t v = 0; v < nodes; v++)
-        call.kinds.at[v] = (uint8_t)take_digit(&code, 3);
+        call.kinds.at[v] = kind_by(take_digit(&code, kinds_with(nodes)), nodes, dice);
     for (size_t i = 0; i < transistors; i++) {
         uint8_t type = (uint8_t)take_digit(&code, 3);
         uint16_t gate = (uint16_t)take_digit(&code, (uint32_t)nodes);
@@ -98,7 +114,7 @@ static void one_network(size_t nodes, size_t transistors, uint64_t code, struct 
 
 static uint64_t networks_with(size_t nodes, size_t transistors)
 {
-    return power(3, nodes) * power(3 * power(nodes, 3), transistors);
+    return power(kinds_with(nodes), nodes) * power(3 * power(nodes, 3), transistors);
 }
 
 void check_small(const struct options *options)

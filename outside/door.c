@@ -249,7 +249,7 @@ static void print_call(const struct call *call, enum flush flush)
         return;
     printf("  kinds ");
     for (size_t v = 0; v < call->kinds.length; v++)
-        printf(call->kinds.at[v] <= 2 ? "%c" : "?", "NPI"[call->kinds.at[v] % 3]);
+        putchar(call->kinds.at[v] <= 4 ? "NPIGV"[call->kinds.at[v]] : '?');
     printf("; transistors");
     for (size_t i = 0; i < transistors; i++)
         printf(" %c(%u;%u,%u)", call->types.at[i] <= 2 ? "npd"[call->types.at[i]] : '?',

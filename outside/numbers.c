@@ -4,7 +4,9 @@
 */
 #include "twistdory.h"
 
-_Static_assert(TWISTDORY_NORMAL == 0 && TWISTDORY_PULLUP == 1 && TWISTDORY_INPUT == 2, "kinds");
+_Static_assert(TWISTDORY_NORMAL == 0 && TWISTDORY_PULLUP == 1 && TWISTDORY_INPUT == 2,
+               "kinds");
+_Static_assert(TWISTDORY_GROUND == 3 && TWISTDORY_POWER == 4, "rails");
 _Static_assert(TWISTDORY_0 == 0 && TWISTDORY_1 == 1 && TWISTDORY_X == 2, "states");
 _Static_assert(TWISTDORY_N == 0 && TWISTDORY_P == 1 && TWISTDORY_D == 2, "types");
 _Static_assert(TWISTDORY_MIN_NODES == 1 && TWISTDORY_MAX_NODES == 4096, "nodes");

@@ -69,16 +69,26 @@ static bool limit_refused(uint32_t limit, uint32_t answer[4])
     return !fits;
 }
 
-/* Kinds and states are refused alike: a byte above 2. */
-static bool bytes_refused(const uint8_t *bytes, size_t length, uint32_t number,
+/* Kinds and states are refused alike: a byte above the highest. */
+static bool bytes_refused(const uint8_t *bytes, size_t length, uint8_t highest, uint32_t number,
                           uint32_t answer[4])
 {
     size_t v = 0;
-    while (v < length && bytes[v] <= 2)
+    while (v < length && bytes[v] <= highest)
         v++;
     if (v < length)
         write_answer(answer, number, v, 0, 0);
     return v < length;
+}
+
+static bool kinds_refused(const uint8_t *kinds, size_t length, uint32_t answer[4])
+{
+    return bytes_refused(kinds, length, TWISTDORY_POWER, TWISTDORY_KIND, answer);
+}
+
+static bool states_refused(const uint8_t *states, size_t length, uint32_t answer[4])
+{
+    return bytes_refused(states, length, TWISTDORY_X, TWISTDORY_STATE, answer);
 }
 
 static bool wires_refused(const struct transistors *t, size_t nodes, uint32_t answer[4])
@@ -99,7 +109,7 @@ static bool list_refused(const struct plain_changes *changes, const uint8_t *kin
     size_t i = 0;
     for (; i < changes->count; i++) {
         uint16_t node = changes->nodes[i];
-        if (node >= nodes || kinds[node] != TWISTDORY_INPUT || changes->states[i] > TWISTDORY_X)
+        if (node >= nodes || kinds[node] < TWISTDORY_INPUT || changes->states[i] > TWISTDORY_X)
             break;
         if (named[node])
             break;
@@ -143,7 +153,7 @@ void twistdory_check(const uint8_t *kinds, size_t kinds_length,
     struct transistors t = {types, gates, sources, drains,
                             {types_length, gates_length, sources_length, drains_length}};
     if (nodes_refused(kinds_length, kinds_length, answer) || transistors_refused(&t, answer)
-        || bytes_refused(kinds, kinds_length, TWISTDORY_KIND, answer)
+        || kinds_refused(kinds, kinds_length, answer)
         || wires_refused(&t, kinds_length, answer))
         return;
     write_answer(answer, TWISTDORY_DONE, 0, 0, 0);
@@ -154,9 +164,12 @@ void twistdory_reset(const uint8_t *kinds, size_t kinds_length,
                      uint32_t answer[4])
 {
     if (nodes_refused(kinds_length, states_length, answer)
-        || bytes_refused(kinds, kinds_length, TWISTDORY_KIND, answer))
+        || kinds_refused(kinds, kinds_length, answer))
         return;
     memset(states, TWISTDORY_X, states_length);
+    for (size_t v = 0; v < states_length; v++)
+        if (kinds[v] >= TWISTDORY_GROUND)
+            states[v] = kinds[v] == TWISTDORY_POWER;
     write_answer(answer, TWISTDORY_DONE, 0, 0, 0);
 }
 
@@ -173,9 +186,9 @@ void twistdory_step(const uint8_t *kinds, size_t kinds_length,
                             {types_length, gates_length, sources_length, drains_length}};
     if (nodes_refused(kinds_length, states_length, answer) || transistors_refused(&t, answer)
         || work_refused(kinds_length, types_length, work_length, answer)
-        || bytes_refused(kinds, kinds_length, TWISTDORY_KIND, answer)
+        || kinds_refused(kinds, kinds_length, answer)
         || wires_refused(&t, kinds_length, answer)
-        || bytes_refused(states, states_length, TWISTDORY_STATE, answer))
+        || states_refused(states, states_length, answer))
         return;
     uint8_t next[TWISTDORY_MAX_NODES];
     struct plain *plain = open_network(kinds, kinds_length, &t);
@@ -206,9 +219,9 @@ void twistdory_unit_run(const uint8_t *kinds, size_t kinds_length,
         || changes_refused(change_nodes_length, change_states_length, answer)
         || work_refused(kinds_length, types_length, work_length, answer)
         || limit_refused(limit, answer)
-        || bytes_refused(kinds, kinds_length, TWISTDORY_KIND, answer)
+        || kinds_refused(kinds, kinds_length, answer)
         || wires_refused(&t, kinds_length, answer)
-        || bytes_refused(states, states_length, TWISTDORY_STATE, answer)
+        || states_refused(states, states_length, answer)
         || list_refused(&changes, kinds, kinds_length, answer))
         return;
     uint32_t in_force = limit == 0 ? TWISTDORY_DEFAULT_LIMIT : limit, count;
@@ -239,9 +252,9 @@ void twistdory_ternary_run(const uint8_t *kinds, size_t kinds_length,
     if (nodes_refused(kinds_length, states_length, answer) || transistors_refused(&t, answer)
         || changes_refused(change_nodes_length, change_states_length, answer)
         || work_refused(kinds_length, types_length, work_length, answer)
-        || bytes_refused(kinds, kinds_length, TWISTDORY_KIND, answer)
+        || kinds_refused(kinds, kinds_length, answer)
         || wires_refused(&t, kinds_length, answer)
-        || bytes_refused(states, states_length, TWISTDORY_STATE, answer)
+        || states_refused(states, states_length, answer)
         || list_refused(&changes, kinds, kinds_length, answer))
         return;
     uint32_t counts[2] = {0, 0};

@@ -21,7 +21,7 @@ use Rattle.model.specs.Net.{{Net, stands, linked, spread, joined, strength, set
 use Rattle.model.specs.Run.{{Changes, raised, lowered, unitSteps, firstHalf, secondHalf}}
 use Rattle.model.specs.Answer.{{row}}
 use Rattle.model.specs.Rules.{{wireTests, changeTests, checkSizes, checkRules, resetSizes, resetRules, stepSizes, stepRules, runSizes, runRules, unitRules, ternaryRules}}
-use Rattle.model.specs.Entries.{{Outcome, altered, firstChanged, cleared, checkAnswer, resetOutcome, stepOutcome, unitOutcome, ternaryOutcome}}
+use Rattle.model.specs.Entries.{{Outcome, altered, firstChanged, resetStates, cleared, checkAnswer, resetOutcome, stepOutcome, unitOutcome, ternaryOutcome}}
 
 -- n cells of 0; n cells of which each is one more than the last
 abbrev zeros : ℕ → List ℕ
@@ -72,7 +72,7 @@ found =
 
 FOOT = """
 pub samples : ran ≡ found
-unfolding stands linked spread joined strength setState new step raised lowered unitSteps firstHalf secondHalf wireTests changeTests checkSizes checkRules resetSizes resetRules stepSizes stepRules runSizes runRules unitRules ternaryRules altered firstChanged cleared checkAnswer resetOutcome stepOutcome unitOutcome ternaryOutcome
+unfolding stands linked spread joined strength setState new step raised lowered unitSteps firstHalf secondHalf wireTests changeTests checkSizes checkRules resetSizes resetRules stepSizes stepRules runSizes runRules unitRules ternaryRules altered firstChanged resetStates cleared checkAnswer resetOutcome stepOutcome unitOutcome ternaryOutcome
 samples = refl
 """
 

@@ -2,7 +2,8 @@
 
 import random
 
-from rules import D, DONE, INPUT, N, NORMAL, OSCILLATES, P, PULLUP, START, UNKNOWN, Lent, Net, call, cells, stands, steps
+from rules import D, DONE, GROUND, INPUT, INPUTS, N, NORMAL, OSCILLATES, P, POWER, PULLUP, START, UNKNOWN
+from rules import Lent, Net, call, cells, stands, steps
 
 # the definitions try every choice too: these bounds keep them quick
 MOST_UNKNOWN = 3
@@ -41,10 +42,14 @@ class Draw:
         return [self.below(3) for _ in range(n)]
 
 
+# as often as they stand here
+KINDS = NORMAL, NORMAL, NORMAL, NORMAL, PULLUP, PULLUP, INPUT, INPUT, GROUND, POWER
+
+
 def network(draw):
     nodes, wires = 1 + draw.below(6), draw.below(7)
     return Net(
-        [draw.one_of((NORMAL, NORMAL, PULLUP, INPUT, INPUT)) for _ in range(nodes)],
+        [draw.one_of(KINDS) for _ in range(nodes)],
         [draw.one_of((N, N, P, D)) for _ in range(wires)],
         *([draw.below(nodes) for _ in range(wires)] for _ in range(3)),
     )
@@ -83,7 +88,7 @@ def sound(draw, entry, settled):
     states = draw.states(len(net.kinds))
     if settled:
         states = steps(net, states, 10)[0][-1]
-    places = [node for node, kind in enumerate(net.kinds) if kind == INPUT and draw.below(3)]
+    places = [node for node, kind in enumerate(net.kinds) if kind in INPUTS and draw.below(3)]
     if draw.below(2):
         places.reverse()
     lowest = 1 + draw.below(9)
@@ -169,7 +174,7 @@ def bad_limit(draw, lent):
 
 
 def bad_kind(draw, lent):
-    return put(lent, "kinds", spoilt(draw, lent.net.kinds, (3, 255)))
+    return put(lent, "kinds", spoilt(draw, lent.net.kinds, (5, 255)))
 
 
 def bad_type(draw, lent):
@@ -187,7 +192,7 @@ def bad_state(draw, lent):
 
 
 def bad_place(draw, lent):
-    others = [node for node, kind in enumerate(lent.net.kinds) if kind != INPUT]
+    others = [node for node, kind in enumerate(lent.net.kinds) if kind not in INPUTS]
     return put(lent, "places", spoilt(draw, lent.places, [len(lent.net.kinds), 65535] + others))
 
 

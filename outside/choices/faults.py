@@ -19,7 +19,7 @@ import rules
 
 @contextlib.contextmanager
 def pullup_weaker_than_charge():
-    kept, rules.STRONGEST_FIRST = rules.STRONGEST_FIRST, (rules.INPUT, rules.NORMAL, rules.PULLUP)
+    kept, rules.STRONGEST_FIRST = rules.STRONGEST_FIRST, (rules.INPUTS, (rules.NORMAL,), (rules.PULLUP,))
     yield
     rules.STRONGEST_FIRST = kept
 
@@ -36,6 +36,21 @@ def p_at_gate_x_open():
     kept, rules.STANDS[rules.P] = rules.STANDS[rules.P], (rules.CLOSED, rules.OPEN, rules.OPEN)
     yield
     rules.STANDS[rules.P] = kept
+
+
+@contextlib.contextmanager
+def rails_exchanged_by_reset():
+    kept, rules.RESET = rules.RESET, {rules.GROUND: rules.HIGH, rules.POWER: rules.LOW}
+    yield
+    rules.RESET = kept
+
+
+@contextlib.contextmanager
+def rails_no_inputs():
+    kept, rules.INPUTS = rules.INPUTS, (rules.INPUT,)
+    first, rules.STRONGEST_FIRST = rules.STRONGEST_FIRST, ((rules.INPUT,), (rules.PULLUP,), (rules.NORMAL, rules.GROUND, rules.POWER))
+    yield
+    rules.INPUTS, rules.STRONGEST_FIRST = kept, first
 
 
 @contextlib.contextmanager
@@ -79,7 +94,7 @@ def main(file):
     if not notices(kept, kept.replace("left (0 ∷ 0 ∷ 1", "left (0 ∷ 0 ∷ 2", 1)):
         print("a count altered in the kept samples: NOT NOTICED")
         missed += 1
-    for fault in (pullup_weaker_than_charge, joined_through_an_input, p_at_gate_x_open, last_changed_node_named):
+    for fault in (pullup_weaker_than_charge, joined_through_an_input, p_at_gate_x_open, rails_exchanged_by_reset, rails_no_inputs, last_changed_node_named):
         with fault():
             lines = differing(bench.lines().splitlines(), choices.BENCH.read_text().splitlines())
             samples = differing(answers(drawn), right)

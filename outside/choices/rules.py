@@ -3,11 +3,15 @@
 import itertools
 from collections import namedtuple
 
-NORMAL, PULLUP, INPUT = KINDS = 0, 1, 2
+NORMAL, PULLUP, INPUT, GROUND, POWER = KINDS = 0, 1, 2, 3, 4
+INPUTS = INPUT, GROUND, POWER
 LOW, HIGH, X = STATES = 0, 1, 2
 N, P, D = TYPES = 0, 1, 2
 DONE, SIZE, LIMIT, KIND, WIRE, STATE, CHANGE, START, OSCILLATES = range(9)
 DEFAULT_LIMIT = 1000
+
+# what reset gives; X to all other kinds
+RESET = {GROUND: LOW, POWER: HIGH}
 
 # ---- How a transistor stands, and one unit step ----
 
@@ -21,7 +25,7 @@ STANDS = {
     D: (CLOSED, CLOSED, CLOSED),
 }
 
-STRONGEST_FIRST = (INPUT, PULLUP, NORMAL)
+STRONGEST_FIRST = (INPUTS, (PULLUP,), (NORMAL,))
 
 Net = namedtuple("Net", "kinds types gates sources drains")
 
@@ -36,7 +40,7 @@ def stands(net, states):
 
 def may_join(net, node):
     """An input touches sets of joined nodes, it never joins them."""
-    return net.kinds[node] != INPUT
+    return net.kinds[node] not in INPUTS
 
 
 def joined_set(net, links, node):
@@ -57,11 +61,11 @@ def agreed(states):
 
 
 def set_state(net, states, links, node):
-    """The state that one choice gives to the node's joined set: only the strongest kind present counts."""
+    """The state that one choice gives to the node's joined set: only the strongest kinds present count."""
     joined = joined_set(net, links, node)
-    touching = {near for near, far in links if net.kinds[near] == INPUT and far in joined}
-    for kind in STRONGEST_FIRST:
-        counted = [HIGH if kind == PULLUP else states[v] for v in joined | touching if net.kinds[v] == kind]
+    touching = {near for near, far in links if net.kinds[near] in INPUTS and far in joined}
+    for kinds in STRONGEST_FIRST:
+        counted = [HIGH if net.kinds[v] == PULLUP else states[v] for v in joined | touching if net.kinds[v] in kinds]
         if counted:
             return agreed(counted)
 
@@ -69,13 +73,13 @@ def set_state(net, states, links, node):
 def step(net, states):
     """All new states from the same old ones. Inputs are not altered."""
     given = [set() for _ in states]
-    others = [node for node, kind in enumerate(net.kinds) if kind != INPUT]
+    others = [node for node, kind in enumerate(net.kinds) if kind not in INPUTS]
     for choice in itertools.product(*stands(net, states)):
         closed = [(source, drain) for (_, _, source, drain), shut in zip(transistors(net), choice) if shut]
         links = closed + [(drain, source) for source, drain in closed]
         for node in others:
             given[node].add(set_state(net, states, links, node))
-    return [old if kind == INPUT else agreed(new) for kind, old, new in zip(net.kinds, states, given)]
+    return [old if kind in INPUTS else agreed(new) for kind, old, new in zip(net.kinds, states, given)]
 
 
 def steps(net, states, most):
@@ -134,7 +138,7 @@ def refusals(lent):
         if len(lent.places) != len(lent.values) or len(lent.places) > 4096:
             yield SIZE, 0
         for e, (node, state) in enumerate(zip(lent.places, lent.values)):
-            if node >= nodes or net.kinds[node] != INPUT or state not in STATES or node in lent.places[:e]:
+            if node >= nodes or net.kinds[node] not in INPUTS or state not in STATES or node in lent.places[:e]:
                 yield CHANGE, e
     if lent.limit is not None and lent.limit > 10000:
         yield LIMIT, 0
@@ -154,7 +158,7 @@ def check(lent):
 
 
 def reset(lent):
-    return Outcome((DONE, 0, 0, 0), [X for _ in lent.states], None, [])
+    return Outcome((DONE, 0, 0, 0), [RESET.get(kind, X) for kind in lent.net.kinds], None, [])
 
 
 def cleared(lent):
@@ -195,7 +199,7 @@ class NotSettled(Exception):
 
 
 def half(lent, states):
-    passed, settled = steps(lent.net, states, sum(kind != INPUT for kind in lent.net.kinds))
+    passed, settled = steps(lent.net, states, sum(kind not in INPUTS for kind in lent.net.kinds))
     if not settled:
         raise NotSettled(lent)
     return passed

@@ -1,4 +1,4 @@
--- From what is accepted to what a step and a run ask for. Assumes nothing.
+-- From what is accepted to what a reset, a step and a run ask for. Assumes nothing.
 use Prim.Native.Nat.{ℕ, _≤_}
 use native.Mathlib.Omega.{arith}
 use mathlib.Core.Path.{_≡_, _∙_}
@@ -10,13 +10,13 @@ use Rattle.model.specs.Bounds.{highestState, highestLimit, highestKind, highest
 use Rattle.model.specs.Places.{any, at}
 use Rattle.model.specs.Net.{Net, nodes, isInput}
 use Rattle.model.specs.Run.{Changes, changesOf}
-use Rattle.model.specs.Rules.{judge, kindRule, wireRule, stateRule, wireTests, stepSizes, stepRules, runRules, unitRules, ternaryRules, runSizes}
+use Rattle.model.specs.Rules.{judge, kindRule, wireRule, stateRule, wireTests, resetRules, stepSizes, stepRules, runRules, unitRules, ternaryRules, runSizes}
 use Rattle.model.specs.Demands.{Clean, Enterable}
 use Rattle.model.specs.declared.Verdict.the-variants.{Accepted}
 use Rattle.laws.proofs.Changes.{clean-changes}
 use Rattle.laws.proofs.Judged.{Kept, clean, any-none}
 use Rattle.basis.specs.Sound.{Sized, SizedChanges, Sound, Fit, Checked, Named}
-use Rattle.basis.proofs.Fitting.{step-sized, run-sized}
+use Rattle.basis.proofs.Fitting.{reset-sized, step-sized, run-sized}
 
 pub sound : (net : Net) → Sized net → Kept (kindRule (net .kinds)) → Kept (wireRule net) → Sound net
 unfolding wireTests
@@ -34,6 +34,10 @@ pub fit : (net : Net) (s w : List ℕ) → any (stepSizes net s w) ≡ false →
 fit net s w e k d h =
     let f = step-sized net s w e in
     record { sound = sound net (f .0) k d; states-level = f .1; state-is = λ v l. ltb-false highestState (at s v) (h v (omega arith)); room = f .2 }
+
+pub reset-level : (kinds s : List ℕ) → judge (resetRules kinds s) ≡ Accepted → length s ≡ length kinds
+unfolding resetRules
+reset-level kinds s e = reset-sized kinds s (clean (resetRules kinds s) e .0 0 (omega arith)) .2
 
 pub step-accepted : (net : Net) (s w : List ℕ) → judge (stepRules net s w) ≡ Accepted → Fit net s w
 unfolding stepRules

@@ -4,12 +4,14 @@ ghost use Prim.Native.Nat.{_≤_};
 ghost use mathlib.Core.Path.{_≡_};
 ghost use lib.ListN.{length};
 
-// Kinds of nodes: plain, with a pullup, input.
+// Kinds of nodes: plain, with a pullup, input, ground.
 const N: u8 = 0;
 
 const P: u8 = 1;
 
 const I: u8 = 2;
+
+const G: u8 = 3;
 
 // Types of transistors that the set has: n and d.
 const TN: u8 = 0;
@@ -184,7 +186,7 @@ pub fn list_of(changes: Changes) -> ChangeList
 
 // Large networks by name, of which a program lends as much as it names.
 pub enum Large {
-    // a ring of nodes that are all of one kind but for node 0, an input, by transistors of one type and gate; from transistor 4,096 on each is
+    // a ring of nodes that are all of one kind but for node 0, ground, by transistors of one type and gate; from transistor 4,096 on each is
     // listed a second time
     Ring { kind: u8, ty: u8, gate: u16 },
     // inverters in a row: node 0 is ground, node 1 the input of the first; each has a pullup
@@ -237,14 +239,14 @@ pub fn large_of(net: Large) -> LargeNetwork
 {
     match net {
         Large::Ring { kind, ty, gate } => LargeNetwork {
-            kinds: kinds_of(I, kind, kind),
+            kinds: kinds_of(G, kind, kind),
             types: [ty; 8193],
             gates: [gate; 8193],
             sources: nodes_from(0),
             drains: nodes_from(1),
         },
         Large::Inverters => LargeNetwork {
-            kinds: kinds_of(I, I, P),
+            kinds: kinds_of(G, I, P),
             types: [TN; 8193],
             gates: nodes_from(1),
             sources: [0; 8193],

@@ -5,12 +5,16 @@ use model::Answer;
 use trials::Entry;
 ghost use Prim.Native.Nat.{_≤_};
 
-// Kinds of nodes: plain, with a pullup, input.
+// Kinds of nodes: plain, with a pullup, input, ground, power.
 const N: u8 = 0;
 
 const P: u8 = 1;
 
 const I: u8 = 2;
+
+const G: u8 = 3;
+
+const V: u8 = 4;
 
 // The type of a transistor that is always closed.
 const D: u8 = 2;
@@ -128,7 +132,8 @@ fn lengths_of_tables() {
     lengths(Entry::Reset, N, 4097, 4096, 0, 0, 0, 0);
 }
 
-// A step and the runs at full size need 32,768 work cells, and so do 4,096 changes of as many inputs; 4,097 changes are too many.
+// A step and the runs at full size need 32,768 work cells, and so do 4,096 changes of as many inputs; 4,097 changes are too many. Inputs alone, and
+// rails alone, settle with no step.
 fn lengths_of_runs() {
     lengths(Entry::Step, N, 4096, 4096, 8192, 8192, 0, 32767);
     lengths(Entry::Step, N, 4096, 4096, 8192, 8192, 0, 32768);
@@ -136,14 +141,18 @@ fn lengths_of_runs() {
     lengths(Entry::Ternary, N, 4096, 4096, 8192, 8192, 1, 32769);
     lengths(Entry::Unit, I, 4096, 4096, 8192, 8192, 4096, 32768);
     lengths(Entry::Unit, I, 4096, 4096, 8192, 8192, 4097, 32768);
+    lengths(Entry::Unit, G, 4096, 4096, 8192, 8192, 0, 32768);
+    lengths(Entry::Unit, V, 4096, 4096, 8192, 8192, 4096, 32768);
     lengths(Entry::Step, N, 3, 3, 1, 1, 0, 13);
     lengths(Entry::Step, N, 3, 3, 1, 1, 0, 14);
 }
 
-// Kinds, types and states end at 2, node numbers below the node count; reset takes any state.
+// Kinds end at 4, types and states at 2, node numbers below the node count; reset takes any state.
 fn contents_of_tables() {
-    contents(Entry::Check, 2, 0, 0, 0, 0, 0, 0);
-    contents(Entry::Check, 3, 0, 0, 0, 0, 0, 0);
+    contents(Entry::Check, 4, 0, 0, 0, 0, 0, 0);
+    contents(Entry::Check, 5, 0, 0, 0, 0, 0, 0);
+    contents(Entry::Reset, 4, 0, 0, 0, 0, 0, 0);
+    contents(Entry::Reset, 5, 0, 0, 0, 0, 0, 0);
     contents(Entry::Check, N, 2, 0, 0, 0, 0, 0);
     contents(Entry::Check, N, 3, 0, 0, 0, 0, 0);
     contents(Entry::Check, N, 0, 2, 0, 0, 0, 0);
@@ -161,7 +170,7 @@ fn first_changed() {
 }
 
 // The limit ends at 10,000, and a run may end exactly at its limit. A ternary run needs a settled start: a pullup at 0 is none. Of the changes,
-// the first is of an input, also to the state that it has, the second of no input, the fourth of no node; new states end at 2.
+// the first is of ground, also to the state that it has, the second of no input, the fourth of no node; new states end at 2.
 fn contents_of_runs() {
     contents(Entry::Unit, P, 0, 0, 0, 0, 0, 10000);
     contents(Entry::Unit, P, 0, 0, 0, 0, 0, 10001);
@@ -171,6 +180,7 @@ fn contents_of_runs() {
     contents(Entry::Unit, N, 0, 0, 0, 1, 0, 1);
     contents(Entry::Unit, N, 0, 0, 0, 2, 0, 1);
     contents(Entry::Unit, I, 0, 0, 0, 3, 1, 1);
+    contents(Entry::Unit, V, 0, 0, 0, 3, 1, 1);
     contents(Entry::Unit, I, 0, 0, 0, 4, 1, 1);
     contents(Entry::Unit, I, 0, 0, 0, 1, 2, 1);
     contents(Entry::Unit, I, 0, 0, 0, 1, 3, 1);

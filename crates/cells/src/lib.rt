@@ -1,4 +1,7 @@
-// Single tables, written or compared place by place: work cells at 0, states at X, changes entered, an evaluated step taking effect.
+// Single tables, written or compared place by place: work cells at 0, states as reset leaves them, changes entered, an evaluated step taking
+// effect.
+use model::GROUND;
+use model::POWER;
 ghost use Prim.Native.Nat.{_+_, _≤_};
 ghost use mathlib.Core.Path.{_≡_};
 ghost use mathlib.Core.Bool.{not, cond};
@@ -8,7 +11,7 @@ ghost use Rattle.model.specs.Places.{tab, at};
 ghost use Rattle.model.specs.Bounds.{mostNodes};
 ghost use Rattle.model.specs.Run.{entered, raised};
 ghost use Rattle.model.specs.Lent.{changesNow, lent, left, lentChanges};
-ghost use Rattle.model.specs.Entries.{altered, firstChanged, cleared};
+ghost use Rattle.model.specs.Entries.{altered, firstChanged, resetState, resetStates, cleared};
 ghost use Rattle.basis.specs.Sound.{Named, Once};
 ghost use Rattle.basis.specs.Cells.{Written, Bytes};
 
@@ -32,13 +35,27 @@ pub fn clear(work: &mut [u16], used: usize)
     zero(work, 0, used);
 }
 
-// Every state becomes X.
-pub fn fill_x(states: &mut [u8])
-    ensures { λ _. ⌜ left states ≡ tab (length (lent states)) (λ v. 2) ⌝ }
+// What reset gives a node of this kind: ground 0, power 1, all else X.
+fn reset_state(kind: u8) -> u8
+    ensures { λ r. ⌜ r ≡ resetState kind ⌝ }
+{
+    if kind == GROUND {
+        return 0;
+    }
+    if kind == POWER {
+        return 1;
+    }
+    2
+}
+
+// The rails come up live, every other node at X.
+pub fn reset_states(kinds: &[u8], states: &mut [u8])
+    requires { ⌜ length (now states) ≡ length (now kinds) ⌝ }
+    ensures { λ _. ⌜ left states ≡ resetStates (lent kinds) ⌝ }
 {
     let mut i = 0;
     while i < states.len() {
-        states[i] = 2;
+        states[i] = reset_state(kinds[i]);
         i += 1;
     }
 }

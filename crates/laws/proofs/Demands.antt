@@ -1,28 +1,31 @@
 -- The demands, as statements about the entries under rule one. Each says which sentence it answers. Assumes nothing.
-use Prim.Native.Nat.{ℕ, _≤_, _<_}
+use Prim.Native.Nat.{ℕ, zero, suc, _≤_, _<_}
 use native.Mathlib.Omega.{arith}
-use mathlib.Core.Path.{_≡_, refl, ap, sym, subst}
-use mathlib.Core.Bool.{true}
-use mathlib.Core.Logic.{_⊎_, _↔_, inl}
+use mathlib.Core.Path.{_≡_, refl, ap, sym, _∙_, subst}
+use mathlib.Core.Bool.{true, true≢false}
+use mathlib.Core.Logic.{_⊎_, _↔_, inl, inr}
 use mathlib.Core.List.{List, [], _∷_, _++_}
 use lib.ListN.{length}
-use Rattle.model.specs.Places.{tab, iter, at}
-use Rattle.model.specs.Net.{Net, nodes, isInput, step}
+use borrow.Author.Tests.{ne-eqb}
+use Rattle.model.specs.Places.{iter, at}
+use Rattle.model.specs.Net.{Net, nodes, ground, power, isInput, step}
 use Rattle.model.specs.Run.{Changes, entered, changed, limitOf}
 use Rattle.model.specs.Answer.{number, place, firstCount, secondCount}
 use Rattle.model.specs.Rules.{Rule, judge, given, cells, startRule, checkRules, resetRules, stepSizes, stepRules, runSizes, runRules, unitRules, ternaryRules}
-use Rattle.model.specs.Entries.{Outcome, untouched, firstChanged, cleared, stepTaken, unitRan, ternaryRan, checkAnswer, resetOutcome, stepOutcome, unitOutcome, ternaryOutcome}
+use Rattle.model.specs.Entries.{Outcome, untouched, firstChanged, resetState, resetStates, cleared, stepTaken, unitRan, ternaryRan, checkAnswer, resetOutcome, stepOutcome, unitOutcome, ternaryOutcome}
 use Rattle.model.specs.Order.{_≼_}
 use Rattle.model.specs.Cover.{OneByOne}
-use Rattle.model.specs.Demands.{Clean, Told, Lowest, Enterable, Settles, Unsettled, FirstMoved, Covered}
+use Rattle.model.specs.Demands.{Clean, Told, Lowest, Live, Enterable, Settles, Unsettled, FirstMoved, Covered}
 use Rattle.model.specs.declared.Answer.{Answer}
 use Rattle.model.specs.declared.Answer.the-variants.{Done, Oscillates}
 use Rattle.model.specs.declared.Verdict.{Verdict}
 use Rattle.model.specs.declared.Verdict.the-variants.{Accepted, Refused}
+use Rattle.laws.proofs.Places.{length-tab, getD-tab}
 use Rattle.laws.proofs.Agreed.{below-bit}
 use Rattle.laws.proofs.Judged.{Numbers, none, also, Numbered, numbered, sorted, broken-number, level-at, judged-lowest, judge-append}
 use Rattle.laws.proofs.Cover.{one-reach}
-use Rattle.laws.proofs.Changes.{clean-changes}
+use Rattle.laws.proofs.Changes.{length-put, clean-changes}
+use Rattle.laws.proofs.Moved.{all-held}
 use Rattle.laws.proofs.RuleOne.{stepper}
 use Rattle.laws.proofs.Outcomes.{told, by-verdict, accepts, step-refused, step-done, step-moved, step-at-rest, unit-refused, unit-ran, unit-done, unit-done-place, unit-oscillates, unit-next-moved, unit-done-when, unit-oscillates-when, ternary-refused, ternary-start, ternary-ran, ternary-done, ternary-done-when, ternary-start-when, ternary-above}
 
@@ -48,10 +51,20 @@ module _ (net : Net) where
   unfolding checkAnswer
   check-lowest = judged-lowest 1 (checkRules net) (Done 0 0 0) (sorted 1 check-numbers refl)
 
+-- the states that reset gives, node by node
+states-live : (kinds : List ℕ) → Live kinds (resetStates kinds)
+unfolding resetStates
+states-live kinds = record {
+  level = length-tab (length kinds) _;
+  grounds = λ v l e. getD-tab (length kinds) _ 0 v l ∙ ap resetState e;
+  powers = λ v l e. getD-tab (length kinds) _ 0 v l ∙ ap resetState e;
+  others = λ v l g p. getD-tab (length kinds) _ 0 v l ∙ simp (ne-eqb (at kinds v) ground g, ne-eqb (at kinds v) power p);
+}
+
 -- Reset
 module _ (kinds s : List ℕ) where
   abbrev pub resetDone : Outcome
-  resetDone = record { answer = Done 0 0 0; states = tab (length s) (λ v. 2); work = [] }
+  resetDone = record { answer = Done 0 0 0; states = resetStates kinds; work = [] }
 
   pub reset-told : Told (resetRules kinds s) (untouched s []) resetDone (resetOutcome kinds s)
   unfolding resetOutcome
@@ -74,12 +87,16 @@ module _ (kinds s : List ℕ) where
   reset-numbered : Numbered 8 (resetRules kinds s)
   reset-numbered = numbered 8 reset-numbers refl
 
-  -- "Every state becomes X"
+  -- what reset leaves is a function of the kinds alone
   pub reset-takes : number (resetOutcome kinds s .answer) ≡ 0 → resetOutcome kinds s ≡ resetDone
   unfolding resetOutcome
   reset-takes =
       by-verdict (λ (o : Outcome). number (o .answer) ≡ 0 → o ≡ resetDone) (resetRules kinds s) (untouched s []) resetDone (λ c e. refl)
       (λ a b e. absurd (omega (arith, broken-number 8 (resetRules kinds s) a reset-numbered b .0)))
+
+  -- "Reset gives them 0 and 1. Kind 2 still resets to X", and so do the kinds that are no inputs
+  pub reset-live : number (resetOutcome kinds s .answer) ≡ 0 → Live kinds (resetOutcome kinds s .states)
+  reset-live e = rw (reset-takes e) (states-live kinds)
 
 -- Step
 module _ (net : Net) (s w : List ℕ) where
@@ -188,6 +205,19 @@ module _ (net : Net) (s : List ℕ) (ch : Changes) (limit : ℕ) (w : List ℕ) 
       → Clean (unitRules net s ch limit w) × (unitOutcome net s ch limit w ≡ unitEnd)
   unfolding unitOutcome
   unit-runs = unit-ran (unitRules net s ch limit w) unit-numbered (step net) (cells net) s ch limit w
+
+  -- a network of inputs only, such as rails, settles with count 0
+  pub unit-inputs-only : ((v : ℕ) → v < nodes net → isInput net v ≡ true)
+      → (number (unitOutcome net s ch limit w .answer) ≡ 0) ⊎ (number (unitOutcome net s ch limit w .answer) ≡ 8)
+      → (number (unitOutcome net s ch limit w .answer) ≡ 0) × (firstCount (unitOutcome net s ch limit w .answer) ≡ 0)
+  unit-inputs-only inputs (inl e) = (e, none-before (firstCount (unitOutcome net s ch limit w .answer)) (unit-settles e .least))
+    where
+      none-before : (k : ℕ) → ((j : ℕ) → j < k → step net (iter j (step net) (entered s ch)) ≡ iter j (step net) (entered s ch) → ⊥) → k ≡ 0
+      none-before zero h = refl
+      none-before (suc k) h =
+          let long = length-put s (ch .places) (ch .values) ∙ unit-size (unit-runs (inl e) .0) in
+          absurd (h 0 (omega arith) (all-held (nodes net) (isInput net) (step net) (stepper net) (entered s ch) long inputs))
+  unit-inputs-only inputs (inr e) = let m = unit-names e in absurd (true≢false (sym (inputs _ (m .below)) ∙ m .free))
 
   -- DONE exactly where some number of steps up to the limit settles, OSCILLATES exactly where none does
   pub unit-settles-when : Clean (unitRules net s ch limit w) → (k : ℕ) → k ≤ limitOf limit → step net (iter k (step net) (entered s ch)) ≡ iter k (step net) (entered s ch)

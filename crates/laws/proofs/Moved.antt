@@ -1,4 +1,5 @@
--- The first changed node: there is one exactly where two states of one length differ, and what a step changes first is no input. Assumes nothing.
+-- The first changed node: there is one exactly where two states of one length differ, and what a step changes first is no input.
+-- Assumes nothing.
 use Prim.Native.Nat.{ℕ, _<_}
 use native.Mathlib.Omega.{arith}
 use mathlib.Core.Path.{_≡_, refl, ap, _∙_, sym}
@@ -43,6 +44,10 @@ none-changed s r e = (there (first-changed-says s r), back (first-changed-says s
 module _ (n : ℕ) (input : ℕ → Bool) (f : List ℕ → List ℕ) (st : Stepper n input f) (s : List ℕ) (sized : length s ≡ n) where
   pub at-rest : (firstChanged s (f s) ≡ n) ↔ (f s ≡ s)
   at-rest = let h = none-changed s (f s) (st .sized s ∙ sym sized) in (λ z. h .0 (z ∙ sym sized), λ p. h .1 p ∙ sized)
+
+  -- where all nodes are inputs, nothing moves
+  pub all-held : ((v : ℕ) → v < n → input v ≡ true) → f s ≡ s
+  all-held inputs = ext-getD 0 (f s) s (st .sized s ∙ sym sized) (λ v l. let m : v < n = omega (arith, st .sized s) in st .keeps s v m (inputs v m))
 
   pub first-moved : (f s ≡ s → ⊥) → FirstMoved n input f s (firstChanged s (f s))
   first-moved moves = go (first-changed-says s (f s))

@@ -10,9 +10,9 @@ mostTransistors = 8192
 abbrev pub mostChanges : ℕ
 mostChanges = 4096
 
--- kinds: 0 normal, 1 pullup, 2 input
+-- kinds: 0 normal, 1 pullup, 2 input, and the rails, which are inputs too: 3 ground, 4 power
 abbrev pub highestKind : ℕ
-highestKind = 2
+highestKind = 4
 
 -- types: 0 n, 1 p, 2 d
 abbrev pub highestType : ℕ

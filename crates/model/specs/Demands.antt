@@ -7,7 +7,7 @@ use mathlib.Core.List.{List, [], _∷_}
 use lib.ListN.{length}
 use Rattle.model.specs.Bounds.{highestState}
 use Rattle.model.specs.Places.{iter, at, count}
-use Rattle.model.specs.Net.{Stand, opened, closed, unknown}
+use Rattle.model.specs.Net.{ground, power, Stand, opened, closed, unknown}
 use Rattle.model.specs.Run.{Changes, changed, raised, lowered}
 use Rattle.model.specs.Answer.{number}
 use Rattle.model.specs.Rules.{Rule}
@@ -58,6 +58,13 @@ Lowest rs a = (b : Answer) → Applies rs b → Applies rs a × (number a ≤ nu
 -- an outcome is what is accepted where no rule is broken, and else what the refusal of the first broken rule, at its first place, gives
 abbrev pub Told : {A : Type 0} → List Rule → (Answer → A) → A → A → Type 0
 Told rs refuse accept o = (Clean rs × (o ≡ accept)) ⊎ ((a : Answer) × Broken rs a × (o ≡ refuse a))
+
+-- t is what reset leaves: the rails are live, ground at 0 and power at 1, and all other nodes are X
+pub record Live (kinds t : List ℕ) : Type 0 where
+  pub level : length t ≡ length kinds
+  pub grounds : (v : ℕ) → v < length kinds → at kinds v ≡ ground → at t v ≡ 0
+  pub powers : (v : ℕ) → v < length kinds → at kinds v ≡ power → at t v ≡ 1
+  pub others : (v : ℕ) → v < length kinds → (at kinds v ≡ ground → ⊥) → (at kinds v ≡ power → ⊥) → at t v ≡ 2
 
 -- the change list names inputs below n, each once, with states
 pub record Enterable (n : ℕ) (input : ℕ → Bool) (ch : Changes) : Type 0 where

@@ -1,15 +1,15 @@
 -- What the bench set leaves out, from the definitions, under one claim: each stand of a transistor, both sides of each bound, a run that ends
--- exactly at its limit, the limit in force, the first changed node, the work area after each kind of answer. Assumes nothing.
+-- exactly at its limit, the limit in force, the first changed node, rails, the work area after each kind of answer. Assumes nothing.
 use Prim.Native.Nat.{ℕ, zero, suc}
 use mathlib.Core.Path.{_≡_, refl}
 use mathlib.Core.Bool.{Bool, true, false}
 use mathlib.Core.List.{List, [], _∷_, _++_}
 use Rattle.model.specs.Places.{any}
-use Rattle.model.specs.Net.{Net, Stand, opened, closed, unknown, stand, stands, linked, spread, joined, strength, setState, new, step}
+use Rattle.model.specs.Net.{Net, ground, power, inputKind, Stand, opened, closed, unknown, stand, stands, linked, spread, joined, strength, setState, new, step}
 use Rattle.model.specs.Run.{changesOf, raised, lowered, limitOf, unitSteps, firstHalf, secondHalf}
 use Rattle.model.specs.Answer.{row}
 use Rattle.model.specs.Rules.{nodeSizes, wireSizes, changeSizes, wireTests, changeTests, checkSizes, checkRules, resetSizes, resetRules, stepRules, stepSizes, runSizes, runRules, unitRules, ternaryRules}
-use Rattle.model.specs.Entries.{Outcome, altered, firstChanged, cleared, checkAnswer, resetOutcome, stepOutcome, unitOutcome, ternaryOutcome}
+use Rattle.model.specs.Entries.{Outcome, altered, firstChanged, resetStates, cleared, checkAnswer, resetOutcome, stepOutcome, unitOutcome, ternaryOutcome}
 use Rattle.model.specs.Bench.{line, INV, RING, LATCH}
 
 -- n times a; a table by `tab` takes a number of steps that grows with the square of n
@@ -29,6 +29,10 @@ one kind type gate source drain = record { kinds = 2 ∷ kind ∷ 0 ∷ []; type
 abbrev TWO : Net
 TWO = record { kinds = 2 ∷ 2 ∷ 1 ∷ 1 ∷ []; types = 0 ∷ 0 ∷ []; gates = 1 ∷ 2 ∷ []; sources = 0 ∷ 0 ∷ []; drains = 2 ∷ 3 ∷ [] }
 
+-- an inverter between rails: 0 ground, 1 power, 2 I, 3 N; n(2; 0, 3), p(2; 1, 3)
+abbrev RAILS : Net
+RAILS = record { kinds = 3 ∷ 4 ∷ 2 ∷ 0 ∷ []; types = 0 ∷ 1 ∷ []; gates = 2 ∷ 2 ∷ []; sources = 0 ∷ 1 ∷ []; drains = 3 ∷ 3 ∷ [] }
+
 -- three inverters in a ring: 0 I, 1 P, 2 P, 3 P; n(1; 0, 2), n(2; 0, 3), n(3; 0, 1)
 abbrev THREE : Net
 THREE = record { kinds = 2 ∷ 1 ∷ 1 ∷ 1 ∷ []; types = many 3 0; gates = 1 ∷ 2 ∷ 3 ∷ []; sources = many 3 0; drains = 2 ∷ 3 ∷ 1 ∷ [] }
@@ -42,6 +46,13 @@ stood = stand 0 0 ∷ stand 0 1 ∷ stand 0 2 ∷ stand 1 0 ∷ stand 1 1 ∷ st
 
 abbrev stoodSo : List Stand
 stoodSo = opened ∷ closed ∷ unknown ∷ closed ∷ opened ∷ unknown ∷ closed ∷ closed ∷ closed ∷ []
+
+-- which kinds are inputs: 2 and both rails
+abbrev inputs : List Bool
+inputs = inputKind 0 ∷ inputKind 1 ∷ inputKind 2 ∷ inputKind ground ∷ inputKind power ∷ []
+
+abbrev inputsSo : List Bool
+inputsSo = false ∷ false ∷ true ∷ true ∷ true ∷ []
 
 -- the limit in force: 0 stands for 1,000, and every other limit for itself
 abbrev inForce : List ℕ
@@ -76,9 +87,11 @@ seen =
     ∷ row (checkAnswer (one 2 1 2 3 1))
     ∷ row (checkAnswer (one 2 1 2 0 3))
     ∷ row (checkAnswer (one 2 3 2 0 1))
-    ∷ row (checkAnswer (one 3 1 3 0 1))
-    ∷ line (resetOutcome (2 ∷ 1 ∷ []) (7 ∷ 255 ∷ []))
-    ∷ line (resetOutcome (2 ∷ 3 ∷ []) (7 ∷ 255 ∷ []))
+    ∷ row (checkAnswer (one 4 1 2 0 1))
+    ∷ row (checkAnswer (one 5 1 3 0 1))
+    -- each kind reset; a kind above power; one state for two nodes
+    ∷ line (resetOutcome (0 ∷ 1 ∷ 2 ∷ 3 ∷ 4 ∷ []) (7 ∷ 255 ∷ 0 ∷ 1 ∷ 0 ∷ []))
+    ∷ line (resetOutcome (4 ∷ 5 ∷ []) (7 ∷ 255 ∷ []))
     ∷ line (resetOutcome (2 ∷ 1 ∷ []) (7 ∷ []))
     -- a p transistor: open at 1, closed at 0, unknown at X
     ∷ line (stepOutcome (one 0 1 2 0 1) (1 ∷ 0 ∷ 1 ∷ []) (many 14 9))
@@ -120,8 +133,16 @@ seen =
     ∷ line (ternaryOutcome INV (0 ∷ 1 ∷ 0 ∷ []) (changesOf (1 ∷ 0 ∷ 1 ∷ []) (1 ∷ 0 ∷ 0 ∷ [])) (many 14 9))
     ∷ line (ternaryOutcome INV (0 ∷ 1 ∷ 0 ∷ []) (changesOf (1 ∷ 0 ∷ []) (1 ∷ [])) (many 14 9))
     ∷ line (ternaryOutcome LATCH (1 ∷ 0 ∷ 0 ∷ []) (changesOf (0 ∷ []) (1 ∷ [])) (many 14 9))
-    -- inputs only; no changes, settled and not; the work area after START and after CHANGE
+    -- rails are inputs: they drive the node between them, which is X under an unknown input; changes may name them; they hold against each other
+    ∷ line (unitOutcome RAILS (0 ∷ 1 ∷ 2 ∷ 2 ∷ []) (changesOf (2 ∷ []) (1 ∷ [])) 0 (many 20 9))
+    ∷ line (unitOutcome RAILS (0 ∷ 1 ∷ 1 ∷ 0 ∷ []) (changesOf (2 ∷ []) (2 ∷ [])) 0 (many 20 9))
+    ∷ line (unitOutcome RAILS (0 ∷ 1 ∷ 1 ∷ 0 ∷ []) (changesOf (1 ∷ 0 ∷ 2 ∷ []) (2 ∷ 1 ∷ 1 ∷ [])) 0 (many 20 9))
+    ∷ line (ternaryOutcome RAILS (0 ∷ 1 ∷ 1 ∷ 0 ∷ []) (changesOf (0 ∷ []) (1 ∷ [])) (many 20 9))
+    ∷ line (ternaryOutcome RAILS (0 ∷ 1 ∷ 1 ∷ 0 ∷ []) (changesOf (3 ∷ []) (1 ∷ [])) (many 20 9))
+    -- inputs only, rails only; no changes, settled and not; the work area after START and after CHANGE
     ∷ line (unitOutcome (bare (2 ∷ 2 ∷ []) 1) (0 ∷ 1 ∷ []) (changesOf (1 ∷ []) (1 ∷ [])) 1 (many 10 9))
+    ∷ line (unitOutcome (bare (3 ∷ 4 ∷ []) 1) (0 ∷ 1 ∷ []) (changesOf [] []) 1 (many 10 9))
+    ∷ line (ternaryOutcome (bare (3 ∷ 4 ∷ []) 1) (0 ∷ 1 ∷ []) (changesOf (0 ∷ 1 ∷ []) (1 ∷ 0 ∷ [])) (many 10 9))
     ∷ line (ternaryOutcome INV (0 ∷ 1 ∷ 0 ∷ []) (changesOf [] []) (many 14 9))
     ∷ line (ternaryOutcome INV (0 ∷ 1 ∷ 1 ∷ []) (changesOf [] []) (many 14 9))
     ∷ line (ternaryOutcome INV (0 ∷ 1 ∷ 1 ∷ []) (changesOf (1 ∷ []) (0 ∷ [])) (many 14 9))
@@ -141,8 +162,9 @@ seenSo =
     ∷ (4 ∷ 0 ∷ 0 ∷ 0 ∷ [])
     ∷ (4 ∷ 0 ∷ 0 ∷ 0 ∷ [])
     ∷ (4 ∷ 0 ∷ 0 ∷ 0 ∷ [])
+    ∷ (0 ∷ 0 ∷ 0 ∷ 0 ∷ [])
     ∷ (3 ∷ 1 ∷ 0 ∷ 0 ∷ [])
-    ∷ (0 ∷ 0 ∷ 0 ∷ 0 ∷ 2 ∷ 2 ∷ [])
+    ∷ (0 ∷ 0 ∷ 0 ∷ 0 ∷ 2 ∷ 2 ∷ 2 ∷ 0 ∷ 1 ∷ [])
     ∷ (3 ∷ 1 ∷ 0 ∷ 0 ∷ 7 ∷ 255 ∷ [])
     ∷ (1 ∷ 0 ∷ 0 ∷ 0 ∷ 7 ∷ [])
     ∷ (0 ∷ 3 ∷ 0 ∷ 0 ∷ 1 ∷ 0 ∷ 1 ∷ [])
@@ -177,7 +199,14 @@ seenSo =
     ∷ (6 ∷ 2 ∷ 0 ∷ 0 ∷ 0 ∷ 1 ∷ 0 ∷ [])
     ∷ (1 ∷ 0 ∷ 0 ∷ 0 ∷ 0 ∷ 1 ∷ 0 ∷ [])
     ∷ (0 ∷ 0 ∷ 0 ∷ 0 ∷ 1 ∷ 0 ∷ 0 ∷ [])
+    ∷ (0 ∷ 0 ∷ 1 ∷ 0 ∷ 0 ∷ 1 ∷ 1 ∷ 0 ∷ [])
+    ∷ (0 ∷ 0 ∷ 1 ∷ 0 ∷ 0 ∷ 1 ∷ 2 ∷ 2 ∷ [])
+    ∷ (0 ∷ 0 ∷ 1 ∷ 0 ∷ 1 ∷ 2 ∷ 1 ∷ 1 ∷ [])
+    ∷ (0 ∷ 0 ∷ 1 ∷ 1 ∷ 1 ∷ 1 ∷ 1 ∷ 1 ∷ [])
+    ∷ (6 ∷ 0 ∷ 0 ∷ 0 ∷ 0 ∷ 1 ∷ 1 ∷ 0 ∷ [])
     ∷ (0 ∷ 0 ∷ 0 ∷ 0 ∷ 0 ∷ 1 ∷ [])
+    ∷ (0 ∷ 0 ∷ 0 ∷ 0 ∷ 0 ∷ 1 ∷ [])
+    ∷ (0 ∷ 0 ∷ 0 ∷ 0 ∷ 1 ∷ 0 ∷ [])
     ∷ (0 ∷ 0 ∷ 0 ∷ 0 ∷ 0 ∷ 1 ∷ 0 ∷ [])
     ∷ (7 ∷ 0 ∷ 0 ∷ 0 ∷ 0 ∷ 1 ∷ 1 ∷ [])
     ∷ (7 ∷ 0 ∷ 0 ∷ 0 ∷ 0 ∷ 1 ∷ 1 ∷ [])
@@ -186,6 +215,6 @@ seenSo =
     ∷ many 16 9
     ∷ []
 
-pub edges : (stood ≡ stoodSo) × (inForce ≡ inForceSo) × (large ≡ largeSo) × (seen ≡ seenSo)
-unfolding stands linked spread joined strength setState new step raised lowered unitSteps firstHalf secondHalf wireTests changeTests checkSizes checkRules resetSizes resetRules stepRules stepSizes runSizes runRules unitRules ternaryRules altered firstChanged cleared checkAnswer resetOutcome stepOutcome unitOutcome ternaryOutcome
-edges = (refl, refl, refl, refl)
+pub edges : (stood ≡ stoodSo) × (inputs ≡ inputsSo) × (inForce ≡ inForceSo) × (large ≡ largeSo) × (seen ≡ seenSo)
+unfolding stands linked spread joined strength setState new step raised lowered unitSteps firstHalf secondHalf wireTests changeTests checkSizes checkRules resetSizes resetRules stepRules stepSizes runSizes runRules unitRules ternaryRules altered firstChanged resetStates cleared checkAnswer resetOutcome stepOutcome unitOutcome ternaryOutcome
+edges = (refl, refl, refl, refl, refl)

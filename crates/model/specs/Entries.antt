@@ -4,9 +4,9 @@ use mathlib.Core.Path.{_≡_}
 use mathlib.Core.Bool.{cond}
 use mathlib.Core.List.{List, [], _∷_}
 use lib.ListN.{length}
-use lib.Dec.{ltb}
+use lib.Dec.{eqb, ltb}
 use Rattle.model.specs.Places.{tab, first, count, at}
-use Rattle.model.specs.Net.{Net, nodes, step}
+use Rattle.model.specs.Net.{Net, nodes, ground, power, step}
 use Rattle.model.specs.Run.{Changes, changed, Ran, limitOf, unitSteps, firstHalf, secondHalf}
 use Rattle.model.specs.Rules.{Rule, judged, cells, startRule, checkRules, resetRules, stepRules, unitRules, ternaryRules}
 use Rattle.model.specs.declared.Answer.{Answer}
@@ -28,6 +28,13 @@ altered s r = count (length s) (changed s r)
 
 unfoldable pub firstChanged : List ℕ → List ℕ → ℕ
 firstChanged s r = first (length s) (changed s r)
+
+-- what reset gives a node: the rails are live, all else is X
+abbrev pub resetState : ℕ → ℕ
+resetState kind = cond (eqb kind ground) 0 (cond (eqb kind power) 1 2)
+
+unfoldable pub resetStates : List ℕ → List ℕ
+resetStates kinds = tab (length kinds) (λ v. resetState (at kinds v))
 
 -- the work area with its first `used` cells at 0
 unfoldable pub cleared : ℕ → List ℕ → List ℕ
@@ -69,7 +76,7 @@ unfoldable pub checkAnswer : Net → Answer
 checkAnswer net = judged (checkRules net) (λ a. a) (Done 0 0 0)
 
 unfoldable pub resetOutcome : List ℕ → List ℕ → Outcome
-resetOutcome kinds s = judged (resetRules kinds s) (untouched s []) (record { answer = Done 0 0 0; states = tab (length s) (λ v. 2); work = [] })
+resetOutcome kinds s = judged (resetRules kinds s) (untouched s []) (record { answer = Done 0 0 0; states = resetStates kinds; work = [] })
 
 unfoldable pub stepOutcome : Net → List ℕ → List ℕ → Outcome
 stepOutcome net s w = stepUnder (stepRules net s w) (step net) (cells net) s w

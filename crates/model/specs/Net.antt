@@ -3,7 +3,7 @@ use Prim.Native.Nat.{ℕ, zero, suc}
 use mathlib.Core.Bool.{Bool, true, false, not, cond, _&&_, _||_}
 use mathlib.Core.List.{List, [], _∷_}
 use lib.ListN.{length, getD}
-use lib.Dec.{eqb}
+use lib.Dec.{eqb, ltb}
 use Rattle.model.specs.Places.{tab, iter, every, some, most, imp, at}
 
 -- the tables: a kind for each node; a type, a gate, a source and a drain for each transistor
@@ -28,9 +28,16 @@ nodes net = length (net .kinds)
 abbrev pub transistors : Net → ℕ
 transistors net = length (net .types)
 
--- the one place that says which kinds are inputs
+-- the kinds of the rails: inputs that come up with a state of their own
+abbrev pub ground : ℕ
+ground = 3
+
+abbrev pub power : ℕ
+power = 4
+
+-- the one place that says which kinds are inputs: 2 and both rails, and so all from 2 on, since KIND refuses what is above power
 abbrev pub inputKind : ℕ → Bool
-inputKind kind = eqb kind 2
+inputKind kind = ltb 1 kind
 
 -- by the kinds alone
 abbrev pub inputs : List ℕ → ℕ → Bool

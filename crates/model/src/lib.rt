@@ -10,7 +10,7 @@ pub const MOST_TRANSISTORS: usize = 8192;
 
 pub const MOST_CHANGES: usize = 4096;
 
-pub const HIGHEST_KIND: u8 = 2;
+pub const HIGHEST_KIND: u8 = 4;
 
 pub const HIGHEST_TYPE: u8 = 2;
 
@@ -20,11 +20,16 @@ pub const HIGHEST_LIMIT: u32 = 10000;
 
 pub const DEFAULT_LIMIT: u32 = 1000;
 
+// The kinds of the rails.
+pub const GROUND: u8 = 3;
+
+pub const POWER: u8 = 4;
+
 // The one place in the code that says which kinds are inputs.
 pub fn is_input(kind: u8) -> bool
     ensures { λ r. ⌜ r ≡ inputKind kind ⌝ }
 {
-    kind == 2
+    kind > 1
 }
 
 // One of nine kinds, each with its own numbers.

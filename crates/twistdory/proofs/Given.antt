@@ -2,12 +2,10 @@
 use Prim.Native.Nat.{ℕ}
 use mathlib.Core.Path.{_≡_, refl}
 use mathlib.Core.List.{List, []}
-use lib.ListN.{length}
-use Rattle.model.specs.Places.{tab}
 use Rattle.model.specs.Net.{Net}
 use Rattle.model.specs.Run.{Changes}
 use Rattle.model.specs.Rules.{judge, checkRules, resetRules, stepRules, unitRules, ternaryRules}
-use Rattle.model.specs.Entries.{untouched, checkAnswer, resetOutcome, stepOutcome, unitOutcome, ternaryOutcome, Leaves}
+use Rattle.model.specs.Entries.{untouched, resetStates, checkAnswer, resetOutcome, stepOutcome, unitOutcome, ternaryOutcome, Leaves}
 use Rattle.model.specs.declared.Answer.the-variants.{Done}
 use Rattle.model.specs.declared.Answer.{Answer}
 use Rattle.model.specs.declared.Verdict.{Verdict}
@@ -40,7 +38,7 @@ pub check-accepted : (v : Verdict) → v ≡ Accepted → (net : Net) → v ≡ 
 unfolding checkAnswer
 check-accepted v h net e = accepted-gives (checkRules net) (λ b. b) (Done 0 0 0) v e h
 
-pub reset-accepted : (v : Verdict) → v ≡ Accepted → (kinds s : List ℕ) → v ≡ judge (resetRules kinds s) → (a : Answer) (x : List ℕ) → a ≡ Done 0 0 0 → x ≡ tab (length s) (λ i. 2) → Leaves (resetOutcome kinds s) a x []
+pub reset-accepted : (v : Verdict) → v ≡ Accepted → (kinds s : List ℕ) → v ≡ judge (resetRules kinds s) → (a : Answer) (x : List ℕ) → a ≡ Done 0 0 0 → x ≡ resetStates kinds → Leaves (resetOutcome kinds s) a x []
 unfolding resetOutcome
 reset-accepted v h kinds s e a x p q =
-    leaves-at (accepted-gives (resetRules kinds s) (untouched s []) (record { answer = Done 0 0 0; states = tab (length s) (λ i. 2); work = [] }) v e h) (record { answers = p; states-left = q; work-left = refl })
+    leaves-at (accepted-gives (resetRules kinds s) (untouched s []) (record { answer = Done 0 0 0; states = resetStates kinds; work = [] }) v e h) (record { answers = p; states-left = q; work-left = refl })

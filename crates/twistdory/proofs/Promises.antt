@@ -6,20 +6,20 @@ use mathlib.Core.Bool.{Bool, true}
 use mathlib.Core.Logic.{_⊎_, inr, _↔_}
 use mathlib.Core.List.{List, []}
 use lib.ListN.{length}
-use Rattle.model.specs.Places.{tab, at}
+use Rattle.model.specs.Places.{at}
 use Rattle.model.specs.Net.{Net, nodes, isInput, stands, joined, setState, step}
 use Rattle.model.specs.Run.{Changes, entered, changed, limitOf}
 use Rattle.model.specs.Answer.{number, place, firstCount, secondCount}
 use Rattle.model.specs.Rules.{cells, checkRules, resetRules, stepRules, unitRules}
-use Rattle.model.specs.Entries.{Outcome, cleared, altered, firstChanged, checkAnswer, resetOutcome, stepOutcome, unitOutcome, ternaryOutcome, Leaves}
+use Rattle.model.specs.Entries.{Outcome, cleared, altered, firstChanged, resetStates, checkAnswer, resetOutcome, stepOutcome, unitOutcome, ternaryOutcome, Leaves}
 use Rattle.model.specs.Order.{_≼_}
 use Rattle.model.specs.Cover.{OneByOne}
-use Rattle.model.specs.Demands.{Clean, Choice, Lowest, Settles, Unsettled, FirstMoved, Covered}
+use Rattle.model.specs.Demands.{Clean, Choice, Lowest, Live, Settles, Unsettled, FirstMoved, Covered}
 use Rattle.model.specs.Alike.{Alike, SameAnswer, SameRun}
 use Rattle.model.specs.declared.Answer.{Answer}
 use Rattle.model.specs.declared.Answer.the-variants.{Oscillates}
 use Rattle.laws.proofs.RuleOne.{Inner, step-exactly}
-use Rattle.laws.proofs.Demands.{check-lowest, reset-lowest, reset-untouched, reset-takes, allRules, step-lowest, step-untouched, stepDone, step-takes, step-takes-when, step-names, step-rests, unit-lowest, unit-untouched, unit-settles, unit-at-limit, unit-names, unit-names-none, unit-runs, ternary-lowest, ternary-untouched, ternary-unsettled, ternary-settles, ternary-covers, ternary-runs, ternary-names-none, unit-below}
+use Rattle.laws.proofs.Demands.{check-lowest, reset-lowest, reset-untouched, reset-takes, reset-live, allRules, step-lowest, step-untouched, stepDone, step-takes, step-takes-when, step-names, step-rests, unit-lowest, unit-untouched, unit-settles, unit-at-limit, unit-names, unit-names-none, unit-inputs-only, unit-runs, ternary-lowest, ternary-untouched, ternary-unsettled, ternary-settles, ternary-covers, ternary-runs, ternary-names-none, unit-below}
 use Rattle.laws.proofs.Onward.{step-goes-on}
 use Rattle.laws.proofs.OrderFree.{step-order, unit-order, ternary-order}
 
@@ -41,8 +41,12 @@ module _ (kinds s : List ℕ) {r : Answer} {t : List ℕ} (contract : Leaves (re
   pub reset-first-refusal : Lowest (resetRules kinds s) r
   reset-first-refusal = as-left (λ (a : Answer) (x y : List ℕ). Lowest (resetRules kinds s) a) contract (reset-lowest kinds s)
 
-  pub reset-done : number r ≡ 0 → t ≡ tab (length s) (λ v. 2)
-  reset-done = as-left (λ (a : Answer) (x y : List ℕ). number a ≡ 0 → x ≡ tab (length s) (λ v. 2)) contract (λ e. ap (λ (o : Outcome). o .states) (reset-takes kinds s e))
+  pub reset-done : number r ≡ 0 → t ≡ resetStates kinds
+  reset-done = as-left (λ (a : Answer) (x y : List ℕ). number a ≡ 0 → x ≡ resetStates kinds) contract (λ e. ap (λ (o : Outcome). o .states) (reset-takes kinds s e))
+
+  -- each node of kind 3 is 0, of kind 4 is 1, all others are X
+  pub reset-rails-live : number r ≡ 0 → Live kinds t
+  reset-rails-live = as-left (λ (a : Answer) (x y : List ℕ). number a ≡ 0 → Live kinds x) contract (reset-live kinds s)
 
 -- Step
 module _ (net : Net) (s w : List ℕ) {r : Answer} {t u : List ℕ} (contract : Leaves (stepOutcome net s w) r t u) where
@@ -97,6 +101,11 @@ module _ (net : Net) (s : List ℕ) (ch : Changes) (limit : ℕ) (w : List ℕ) 
 
   pub unit-done-place : number r ≡ 0 → place r ≡ 0
   unit-done-place = as-left (λ (a : Answer) (x y : List ℕ). number a ≡ 0 → place a ≡ 0) contract (unit-names-none net s ch limit w)
+
+  -- rails alone, and inputs alone, settle with count 0
+  pub unit-inputs-settled : ((v : ℕ) → v < nodes net → isInput net v ≡ true) → (number r ≡ 0) ⊎ (number r ≡ 8) → (number r ≡ 0) × (firstCount r ≡ 0)
+  unit-inputs-settled inputs =
+      as-left (λ (a : Answer) (x y : List ℕ). (number a ≡ 0) ⊎ (number a ≡ 8) → (number a ≡ 0) × (firstCount a ≡ 0)) contract (unit-inputs-only net s ch limit w inputs)
 
   -- demand 1: the work area
   pub unit-clears : (number r ≡ 0) ⊎ (number r ≡ 8) → u ≡ cleared (cells net) w

@@ -28,14 +28,14 @@ pub fn check(kinds: &[u8], types: &[u8], gates: &[u16], sources: &[u16], drains:
     }
 }
 
-// Resets the states of a network: every state becomes X, whatever it was.
+// Resets the states of a network, whatever they were: ground comes up at 0, power at 1, every other node at X.
 pub fn reset(kinds: &[u8], states: &mut [u8]) -> Answer
     ensures { λ r. ⌜ Leaves (resetOutcome (lent kinds) (lent states)) r (left states) [] ⌝ }
 {
     match judges::judge_reset(kinds, states) {
         Verdict::Refused(a) => a,
         Verdict::Accepted => {
-            cells::fill_x(states);
+            cells::reset_states(kinds, states);
             done()
         }
     }

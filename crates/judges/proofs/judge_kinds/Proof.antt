@@ -1,4 +1,4 @@
--- `judge_kinds` meets its contract: the search for a kind above 2 ends at the rule's first place or past its last. Assumes nothing.
+-- `judge_kinds` meets its contract: the search for a kind above the highest ends at the rule's first place or past its last. Assumes nothing.
 use borrow.Author.Needs.{needs}
 use Rattle.model.specs.Rules.{kindRule}
 use Rattle.basis.proofs.Judging.{rule-broken, rule-kept}
