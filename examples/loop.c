@@ -17,7 +17,7 @@ enum { GROUND, ENABLE, NAND, MIDDLE, SECOND, THIRD, OUT, NODES };
 static const char *const names[NODES] = {"ground", "enable", "nand", "middle",
                                          "second", "third",  "out"};
 
-static const uint8_t kinds[NODES] = {TWISTDORY_INPUT,  TWISTDORY_INPUT,  TWISTDORY_PULLUP,
+static const uint8_t kinds[NODES] = {TWISTDORY_GROUND, TWISTDORY_INPUT,  TWISTDORY_PULLUP,
                                      TWISTDORY_NORMAL, TWISTDORY_PULLUP, TWISTDORY_PULLUP,
                                      TWISTDORY_PULLUP};
 
@@ -31,17 +31,26 @@ static const uint16_t drains[TRANSISTORS] = {MIDDLE, NAND, SECOND, THIRD, OUT};
 static uint16_t work[TWISTDORY_WORK_CELLS(NODES, TRANSISTORS)];
 enum { CELLS = sizeof work / sizeof *work };
 
+/* A unit run in which `enable` takes this state. */
+static void run(uint8_t states[NODES], uint8_t enable, uint32_t answer[4])
+{
+    const uint16_t change_nodes[1] = {ENABLE};
+    twistdory_unit_run(kinds, NODES, states, NODES, types, TRANSISTORS, gates, TRANSISTORS,
+                       sources, TRANSISTORS, drains, TRANSISTORS, change_nodes, 1, &enable, 1, 0,
+                       work, CELLS, answer);
+}
+
 int main(void)
 {
-    /* Settled with `enable` at 0; now it rises. */
-    uint8_t states[NODES] = {TWISTDORY_0, TWISTDORY_0, TWISTDORY_1, TWISTDORY_1,
-                             TWISTDORY_0, TWISTDORY_1, TWISTDORY_0};
-    const uint16_t change_nodes[1] = {ENABLE};
-    const uint8_t change_states[1] = {TWISTDORY_1};
+    uint8_t states[NODES];
     uint32_t answer[4];
-    twistdory_unit_run(kinds, NODES, states, NODES, types, TRANSISTORS, gates, TRANSISTORS,
-                       sources, TRANSISTORS, drains, TRANSISTORS, change_nodes, 1,
-                       change_states, 1, 0, work, CELLS, answer);
+
+    /* Up from power-on, with `enable` at 0: that settles. Then `enable` rises. */
+    twistdory_reset(kinds, NODES, states, NODES, answer);
+    run(states, TWISTDORY_0, answer);
+    if (answer[TWISTDORY_ANSWER] != TWISTDORY_DONE)
+        return 1;
+    run(states, TWISTDORY_1, answer);
     if (answer[TWISTDORY_ANSWER] != TWISTDORY_OSCILLATES)
         return 1;
     printf("not settled after %u steps; the next moves %s\n",

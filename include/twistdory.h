@@ -25,8 +25,8 @@
 
    1  AN EXAMPLE
 
-   A whole program: an inverter with a pullup. Compile it with this header and
-   the library, as `cc inverter.c libtwistdory.a`. It prints
+   A whole program: an inverter between its rails. Compile it with this header
+   and the library, as `cc inverter.c libtwistdory.a`. It prints
    "DONE after 1 step: in 1, out 0".
 
 ---- examples/inverter.c ----
@@ -36,28 +36,30 @@
 
 int main(void)
 {
-    // Three nodes: 0 is ground, 1 the inverter's input, 2 its output.
-    const uint8_t kinds[3] = {TWISTDORY_INPUT, TWISTDORY_INPUT, TWISTDORY_PULLUP};
+    // Four nodes: 0 is ground, 1 power, 2 the inverter's input, 3 its output.
+    const uint8_t kinds[4] = {TWISTDORY_GROUND, TWISTDORY_POWER, TWISTDORY_INPUT,
+                              TWISTDORY_NORMAL};
 
-    // One n transistor. Its gate is node 1; its channel links nodes 0 and 2.
-    const uint8_t types[1] = {TWISTDORY_N};
-    const uint16_t gates[1] = {1};
-    const uint16_t sources[1] = {0};
-    const uint16_t drains[1] = {2};
+    // Two transistors with node 2 at their gates: the n transistor's channel
+    // links ground and the output, the p transistor's power and the output.
+    const uint8_t types[2] = {TWISTDORY_N, TWISTDORY_P};
+    const uint16_t gates[2] = {2, 2};
+    const uint16_t sources[2] = {0, 1};
+    const uint16_t drains[2] = {3, 3};
 
-    uint8_t states[3];
-    uint16_t work[TWISTDORY_WORK_CELLS(3, 1)];
+    uint8_t states[4];
+    uint16_t work[TWISTDORY_WORK_CELLS(4, 2)];
     uint32_t answer[4];
 
-    // Every state becomes X.
-    twistdory_reset(kinds, 3, states, 3, answer);
+    // The rails come up live: ground at 0, power at 1. All else is X.
+    twistdory_reset(kinds, 4, states, 4, answer);
 
-    // Ground takes 0 and the input 1; steps follow until nothing moves.
-    const uint16_t change_nodes[2] = {0, 1};
-    const uint8_t change_states[2] = {TWISTDORY_0, TWISTDORY_1};
-    twistdory_unit_run(kinds, 3, states, 3, types, 1, gates, 1, sources, 1, drains, 1,
-                       change_nodes, 2, change_states, 2, 0,
-                       work, TWISTDORY_WORK_CELLS(3, 1), answer);
+    // The input takes 1; steps follow until nothing moves.
+    const uint16_t change_nodes[1] = {2};
+    const uint8_t change_states[1] = {TWISTDORY_1};
+    twistdory_unit_run(kinds, 4, states, 4, types, 2, gates, 2, sources, 2, drains, 2,
+                       change_nodes, 1, change_states, 1, 0,
+                       work, TWISTDORY_WORK_CELLS(4, 2), answer);
 
     if (answer[TWISTDORY_ANSWER] != TWISTDORY_DONE) {
         printf("answer %u, place %u\n", (unsigned)answer[TWISTDORY_ANSWER],
@@ -65,7 +67,7 @@ int main(void)
         return 1;
     }
     printf("DONE after %u step: in %c, out %c\n", (unsigned)answer[TWISTDORY_FIRST_COUNT],
-           "01X"[states[1]], "01X"[states[2]]);
+           "01X"[states[2]], "01X"[states[3]]);
     return 0;
 }
 ---- end of the example ----

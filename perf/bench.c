@@ -2,8 +2,8 @@
    The benchmark: the library beside a plain C simulator by Bryant's linear
    method (compare/plain.c), on real shapes (compare/shapes.c), in one run. For
    each shape: the time of one step, of an input change by a unit run and by a
-   ternary run, and the ratio; then how a step's cost grows with the network.
-   What the two answer is compared: they must agree.
+   ternary run, and the ratio; a reset; then how a step's cost grows with the
+   network. What the two answer is compared: they must agree.
 
        bench [--seed S] [--emulated]
 
@@ -57,6 +57,14 @@ static void finish(struct result *result, const uint32_t answer[4])
     result->counts[1] = answer[TWISTDORY_SECOND_COUNT];
 }
 
+static void library_reset(struct result *result, const struct change *change)
+{
+    (void)change;
+    uint32_t answer[4];
+    twistdory_reset(shape.kinds, shape.nodes, result->states, shape.nodes, answer);
+    finish(result, answer);
+}
+
 static void library_step(struct result *result, const struct change *change)
 {
     (void)change;
@@ -85,6 +93,17 @@ static void library_ternary(struct result *result, const struct change *change)
                           shape.sources, t, shape.drains, t, change->node, 1, change->state, 1,
                           work, TWISTDORY_WORK_CELLS(n, t), answer);
     finish(result, answer);
+}
+
+static void plain_reset(struct result *result, const struct change *change)
+{
+    (void)change;
+    for (size_t v = 0; v < shape.nodes; v++)
+        result->states[v] = shape.kinds[v] == TWISTDORY_GROUND  ? TWISTDORY_0
+                            : shape.kinds[v] == TWISTDORY_POWER ? TWISTDORY_1
+                                                                : TWISTDORY_X;
+    result->answer = TWISTDORY_DONE;
+    result->counts[0] = result->counts[1] = 0;
 }
 
 static void plain_one_step(struct result *result, const struct change *change)
@@ -255,6 +274,19 @@ static void bench_shapes(uint64_t seed)
     bench_shape(true);
 }
 
+static void bench_reset(uint64_t seed)
+{
+    static struct result start;
+    const struct change none = {{0}, {0}};
+    shape_random(&shape, SHAPE_NODES, SHAPE_TRANSISTORS, seed);
+    memset(start.states, TWISTDORY_0, sizeof start.states);
+    struct times reset = measure(library_reset, plain_reset, &start, &none);
+    printf("\nMicroseconds: reset of %zu nodes.\n%9s %9s %7s\n", shape.nodes, "lib", "plain C",
+           "ratio");
+    print_times(&reset, 1e6);
+    printf("\n");
+}
+
 /* ---- growth ---- */
 
 static void inverters_of(size_t nodes, uint64_t seed)
@@ -335,6 +367,7 @@ int main(int count, char **words)
     }
     double began = now();
     bench_shapes(seed);
+    bench_reset(seed);
     bench_growth(seed);
     printf("\n%s; %.0f s in all\n",
            all_agree ? "library and plain C agree on every state and count" : "THEY DIFFER",

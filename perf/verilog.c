@@ -15,7 +15,8 @@
      by the order of events, which is the order of the text.
    - A bidirectional switch (tranif) with an unknown gate gives X by strengths of
      its own and not by trying every choice.
-   - An input is a strong driver and a pullup a pull driver, as in the rule here.
+   - An input or a rail is a strong driver and a pullup a pull driver, as in the rule
+     here.
 */
 #include <stdio.h>
 #include <stdlib.h>
@@ -28,6 +29,11 @@ enum { NORMAL, PULLUP, INPUT };
 enum { N_TYPE, P_TYPE, D_TYPE };
 
 static struct shape shape;
+
+static bool is_input(size_t node)
+{
+    return shape.kinds[node] >= INPUT; /* rails too */
+}
 
 static bool make_shape(const char *name)
 {
@@ -75,7 +81,7 @@ static void print_nodes(void)
         printf("  wire n%zu;\n", v);
         if (shape.kinds[v] == PULLUP)
             printf("  pullup (n%zu);\n", v);
-        if (shape.kinds[v] == INPUT)
+        if (is_input(v))
             printf("  reg r%zu = %u; assign n%zu = r%zu;\n", v, shape.states[v], v, v);
     }
 }
@@ -89,7 +95,7 @@ static void print_transistors(void)
     static const char *const one_way[] = {"nmos", "pmos", "nmos"};
     for (size_t i = 0; i < shape.transistors; i++) {
         unsigned source = shape.sources[i], drain = shape.drains[i];
-        bool from_source = shape.kinds[source] == INPUT, from_drain = shape.kinds[drain] == INPUT;
+        bool from_source = is_input(source), from_drain = is_input(drain);
         char gate[16] = "1'b1"; /* of a d transistor */
         if (shape.types[i] != D_TYPE)
             snprintf(gate, sizeof gate, "n%u", shape.gates[i]);
