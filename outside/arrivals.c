@@ -117,7 +117,8 @@ static void one_network(uint64_t seed, uint64_t number)
     uint8_t start[MOST_NODES];
 
     network_random(&call, &dice);
-    call.kinds.at[dice_below(&dice, (uint32_t)nodes)] = (uint8_t)(INPUT + dice_below(&dice, 3));
+    uint8_t kind = (uint8_t)(INPUT + dice_below(&dice, 3));
+    call.kinds.at[dice_below(&dice, (uint32_t)nodes)] = kind;
     for (size_t v = 0; v < nodes; v++)
         inputs += network_is_input(call.kinds.at[v]);
 
