@@ -21,10 +21,11 @@ pub fn number_of(a: Answer) -> u32
         Answer::Change(_) => 6,
         Answer::Start => 7,
         Answer::Oscillates { place: _, limit: _ } => 8,
+        Answer::Text(_) => 9,
     }
 }
 
-// The node, transistor or entry that a refusal is about; the node that a step changed first, or the number of nodes; the node that the
+// The node, transistor, entry or line that a refusal is about; the node that a step changed first, or the number of nodes; the node that the
 // step after OSCILLATES would change first; else 0.
 pub fn place_of(a: Answer) -> u32
     ensures { λ r. ⌜ r ≡ place a ⌝ }
@@ -40,6 +41,7 @@ pub fn place_of(a: Answer) -> u32
         Answer::State(p) => p,
         Answer::Change(p) => p,
         Answer::Oscillates { place, limit: _ } => place,
+        Answer::Text(p) => p,
         Answer::Size => 0,
         Answer::Limit => 0,
         Answer::Start => 0,
@@ -64,6 +66,7 @@ pub fn first_count_of(a: Answer) -> u32
         Answer::State(_) => 0,
         Answer::Change(_) => 0,
         Answer::Start => 0,
+        Answer::Text(_) => 0,
     }
 }
 
@@ -85,6 +88,7 @@ pub fn second_count_of(a: Answer) -> u32
         Answer::Change(_) => 0,
         Answer::Start => 0,
         Answer::Oscillates { place: _, limit: _ } => 0,
+        Answer::Text(_) => 0,
     }
 }
 

@@ -1,12 +1,13 @@
-// The door to C: the five entries under C names, each with its four numbers written through `answer`. include/twistdory.h is its manual.
+// The door to C: the entries under C names, each with its four numbers written through `answer`. include/twistdory.h is its manual.
 // A slice passes as a pointer and a length in elements.
 use answers::row_of;
 ghost use mathlib.Core.Path.{_≡_};
-ghost use mathlib.Core.List.{[]};
-ghost use Rattle.model.specs.Lent.{lent, left, lentNet, lentChanges};
+ghost use mathlib.Core.List.{[], _∷_};
+ghost use Rattle.model.specs.Lent.{lent, left, lentNet, leftNet, lentChanges};
 ghost use Rattle.model.specs.Answer.{row};
 ghost use Rattle.model.specs.Entries.{checkAnswer, resetOutcome, stepOutcome, unitOutcome, ternaryOutcome};
-ghost use Rattle.door.specs.Told.{Told};
+ghost use Rattle.text.specs.Reading.{readOutcome, namePart, namesOutcome};
+ghost use Rattle.door.specs.Told.{Told, ToldRead, ToldNames};
 
 #[no_mangle]
 pub extern "C" fn twistdory_check(
@@ -106,4 +107,41 @@ pub extern "C" fn twistdory_ternary_run(
         change_states,
         work,
     ));
+}
+
+#[no_mangle]
+pub extern "C" fn twistdory_read_sim(
+    text: &[u8],
+    kinds: &mut [u8],
+    types: &mut [u8],
+    gates: &mut [u16],
+    sources: &mut [u16],
+    drains: &mut [u16],
+    answer: &mut [u32; 4],
+)
+    ensures { λ _. ⌜ ToldRead (readOutcome (lent text) (lentNet kinds types gates sources drains)) (left answer) (leftNet kinds types gates sources drains) ⌝ }
+{
+    *answer = row_of(reader::read_sim(text, kinds, types, gates, sources, drains));
+}
+
+// The part's offset and length.
+#[no_mangle]
+pub extern "C" fn twistdory_node_name(text: &[u8], number: u32, part: &mut [u32; 2])
+    ensures { λ _. let name = namePart (lent text) number in
+        ⌜ left part ≡ name .start ∷ name .size ∷ [] ⌝ }
+{
+    let name = reader::node_span(text, number as usize);
+    *part = [name.start as u32, name.size as u32];
+}
+
+#[no_mangle]
+pub extern "C" fn twistdory_node_names(
+    text: &[u8],
+    starts: &mut [u16],
+    sizes: &mut [u8],
+    answer: &mut [u32; 4],
+)
+    ensures { λ _. ⌜ ToldNames (namesOutcome (lent text) (lent starts) (lent sizes)) (left answer) (left starts) (left sizes) ⌝ }
+{
+    *answer = row_of(reader::node_names(text, starts, sizes));
 }

@@ -1,17 +1,17 @@
 -- Order-freedom of the step: networks that list the same transistors, in any order, each any number of times, source and drain either way round,
 -- take the same step on every state. Assumes nothing.
-use Prim.Native.Nat.{ℕ, zero, suc, min, _<_}
-use native.Mathlib.Omega.{arith}
+use Prim.Native.Nat.{ℕ, min, _<_}
 use mathlib.Core.Path.{_≡_, refl, ap, ap₂, _∙_, sym, subst, fun-ext}
 use mathlib.Core.Logic.{_⊎_, inl, inr}
 use mathlib.Core.Bool.{Bool, true, false, cond}
-use mathlib.Core.List.{List, _∷_}
-use Rattle.model.specs.Places.{tab, at}
+use mathlib.Core.List.{List}
+use Rattle.model.specs.Places.{at}
 use Rattle.model.specs.Net.{Net, nodes, transistors, isInput, Stand, stand, standAt, sourceState, new, step}
 use Rattle.model.specs.Alike.{Copy, Held, Alike}
 use Rattle.model.specs.Ways.{Frame, Lawful, Joins, Way, source, pass, Definite, Unblocked, From}
 use Rattle.model.specs.Tables.{fresh}
 use Rattle.model.specs.RuleOne.{frame}
+use Rattle.laws.proofs.Places.{tab-cong}
 use Rattle.laws.proofs.Agreed.{agreed-cong}
 use Rattle.laws.proofs.Ways.{none, none-from, from-none}
 use Rattle.laws.proofs.RuleOne.{lawful, new-by-ways}
@@ -88,10 +88,6 @@ module _ (net : Net) (ts gs ss ds : List ℕ) where
       ends v w (inl h) (inr e) = inr (h .1 ∙ e .0, h .0 ∙ e .1)
       ends v w (inr h) (inl e) = inr (h .0 ∙ e .0, h .1 ∙ e .1)
       ends v w (inr h) (inr e) = inl (h .1 ∙ e .0, h .0 ∙ e .1)
-
-tab-cong : {A : Type 0} (n : ℕ) (f g : ℕ → A) → ((i : ℕ) → i < n → f i ≡ g i) → tab n f ≡ tab n g
-tab-cong zero f g h = refl
-tab-cong (suc n) f g h = ap₂ _∷_ (h zero (omega arith)) (tab-cong n (λ i. f (suc i)) (λ i. g (suc i)) (λ i l. h (suc i) (omega arith)))
 
 module _ (net : Net) (ts gs ss ds : List ℕ) (there : Held net (other net ts gs ss ds)) (back : Held (other net ts gs ss ds) net) (s : List ℕ) where
   abbrev twin : Net

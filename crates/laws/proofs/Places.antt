@@ -5,6 +5,7 @@ use native.Mathlib.Omega.{arith}
 use mathlib.Core.Path.{_≡_, refl, ap, ap₂}
 use mathlib.Core.Logic.{_⊎_, inl, inr}
 use mathlib.Core.Bool.{Bool, true, false, _||_, false≢true, and-eq-true-iff}
+use mathlib.Core.List.{List, [], _∷_, _++_}
 use lib.ListN.{length, getD}
 use lib.Dec.{leb}
 use borrow.Author.Tests.{leb-true, leb-false}
@@ -19,6 +20,15 @@ module _ {A : Type 0} where
   getD-tab zero f d i h = absurd (not-suc-le-zero h)
   getD-tab (suc n) f d zero h = refl
   getD-tab (suc n) f d (suc i) h = getD-tab n (λ j. f (suc j)) d i (le-of-suc-le-suc h)
+
+  pub tab-cong : (n : ℕ) (f g : ℕ → A) → ((i : ℕ) → i < n → f i ≡ g i) → tab n f ≡ tab n g
+  tab-cong zero f g h = refl
+  tab-cong (suc n) f g h = ap₂ _∷_ (h zero (omega arith)) (tab-cong n (λ i. f (suc i)) (λ i. g (suc i)) (λ i l. h (suc i) (omega arith)))
+
+  -- one entry more
+  pub tab-more : (n : ℕ) (f : ℕ → A) → tab (suc n) f ≡ tab n f ++ f n ∷ []
+  tab-more zero f = refl
+  tab-more (suc n) f = ap (λ (l : List A). f zero ∷ l) (tab-more n (λ i. f (suc i)))
 
 pub every-at : (n : ℕ) (p : ℕ → Bool) → every n p ≡ true → (i : ℕ) → i < n → p i ≡ true
 every-at zero p e i h = absurd (not-suc-le-zero h)

@@ -32,3 +32,10 @@ defaultLimit = 1000
 -- the work cells that a network of n nodes and t transistors needs
 abbrev pub cellsFor : ℕ → ℕ → ℕ
 cellsFor n t = 4 * n + 2 * t
+
+-- the bytes of a text, and those of a name in it
+abbrev pub mostBytes : ℕ
+mostBytes = 65535
+
+abbrev pub mostName : ℕ
+mostName = 63

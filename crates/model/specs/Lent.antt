@@ -27,6 +27,10 @@ lentNet kinds types gates sources drains = netOf (lent kinds) (lent types) (lent
 abbrev pub lentChanges : Lent → Lent → Changes
 lentChanges nodes states = changesOf (lent nodes) (lent states)
 
+-- the network left, where its tables are written
+abbrev pub leftNet : Lent → Lent → Lent → Lent → Lent → Net
+leftNet kinds types gates sources drains = netOf (left kinds) (left types) (left gates) (left sources) (left drains)
+
 -- the same in `requires`
 abbrev pub netNow : Table → Table → Table → Table → Table → Net
 netNow kinds types gates sources drains = netOf (now kinds) (now types) (now gates) (now sources) (now drains)

@@ -20,7 +20,14 @@ pub const HIGHEST_LIMIT: u32 = 10000;
 
 pub const DEFAULT_LIMIT: u32 = 1000;
 
-// The kinds of the rails.
+// The bytes of a text, and those of a name in it.
+pub const MOST_BYTES: usize = 65535;
+
+pub const MOST_NAME: usize = 63;
+
+// The kind that a pullup load gives its node, and those of the rails.
+pub const PULLUP: u8 = 1;
+
 pub const GROUND: u8 = 3;
 
 pub const POWER: u8 = 4;
@@ -32,10 +39,10 @@ pub fn is_input(kind: u8) -> bool
     kind > 1
 }
 
-// One of nine kinds, each with its own numbers.
+// One of ten kinds, each with its own numbers.
 pub enum Answer {
     // settled, or done with what was asked: after a step the first node that it changed, or the number of nodes where it changed none,
-    // else 0; the counts of a step, a unit run, both halves of a ternary run
+    // else 0; the counts of a step, a unit run, both halves of a ternary run, the nodes and transistors of a text
     Done { place: u32, first: u32, second: u32 },
     // a length or a count breaks the bounds
     Size,
@@ -53,6 +60,8 @@ pub enum Answer {
     Start,
     // a unit run that did not settle within its limit: the first node that the next step would change, and the limit in force
     Oscillates { place: u32, limit: u32 },
+    // reading a text: the first line that is no device and none to skip, or for which there is no room, counted from 0
+    Text(u32),
 }
 
 // Whether what is lent is taken, or which refusal it gets.

@@ -1,0 +1,3 @@
+-- What the proofs of devices cite.
+mod Joining
+mod Midway

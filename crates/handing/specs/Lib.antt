@@ -1,0 +1,2 @@
+-- In which terms the contracts of handing over speak.
+pub mod Handing

@@ -1,0 +1,2 @@
+-- In which terms the entries' inner contracts speak.
+pub mod AtLarge

@@ -1,0 +1,3 @@
+-- What the proofs of the scan cite.
+mod Opening
+mod Ends
