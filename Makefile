@@ -8,7 +8,7 @@ run: toolchain
 	@sh mk/prove.sh cases
 	@sh mk/run.sh cases
 
-# From nothing: layout, the outside program in Python, all proofs and programs, then the C library made of what was proved.
+# From nothing: layout, the outside programs in Python, all proofs and programs, then the C library made of what was proved.
 # At the end stands once more the last line of rt ci.
 test: toolchain layout choices proofs
 	@$(MAKE) -s examples outside
@@ -17,10 +17,13 @@ test: toolchain layout choices proofs
 layout:
 	@rt fmt --check && echo "layout: every file is as the formatter lays it out"
 
-# The program that tries every choice, against the bench set and the samples; and the faults that it must notice.
+# The program that tries every choice, against the bench set and the samples; the one that reads texts, against those worked out by hand; and
+# the faults that they must notice.
 choices:
 	@outside/choices/check.sh
 	@outside/choices/check.sh --self-test
+	@outside/texts/check.sh
+	@outside/texts/check.sh --self-test
 
 proofs:
 	@mkdir -p build && rm -f build/libtwistdory.a

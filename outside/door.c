@@ -1,14 +1,10 @@
 /* The door: see door.h. */
-#define _GNU_SOURCE
 #include "door.h"
 
 #include <inttypes.h>
-#include <setjmp.h>
-#include <signal.h>
 #include <stdio.h>
 #include <stdlib.h>
 #include <string.h>
-#include <sys/time.h>
 
 #include "lend.h"
 #include "twistdory.h"
@@ -16,116 +12,54 @@
 enum table { KINDS, STATES, TYPES, GATES, SOURCES, DRAINS, CHANGE_NODES, CHANGE_STATES, WORK,
              ANSWER, TABLES };
 
-enum {
-    SMALL_BYTES = 4096,        /* one page: whatever small networks need */
-    LARGE_BYTES = 70000 * 2,   /* the longest tables of the check */
-    REPORTS = 5                /* findings told in full; the rest is only counted */
-};
-
-struct door_counts door_counts;
-int door_patience = 120;
-uint64_t door_enough = UINT64_MAX;
-
-static struct room small_rooms[TABLES], large_rooms[TABLES];
-static bool lend_null;
-
-static const char *check_name = "nothing";
-static uint64_t check_number;
-static const char *check_replay = "";
+static struct rooms rooms[TABLES];
 
 static const char *const entry_names[ENTRIES] = {"check", "reset", "step", "unit run",
                                                  "ternary run"};
-
-/* ---- traps ---- */
-
-static sigjmp_buf before_call;
-static volatile sig_atomic_t in_call;
-static volatile sig_atomic_t seconds_in_call;
-
-static void on_trap(int signal_number)
-{
-    if (in_call)
-        siglongjmp(before_call, signal_number);
-    signal(signal_number, SIG_DFL);
-    raise(signal_number);
-}
-
-static void on_second(int signal_number)
-{
-    if (in_call && ++seconds_in_call > door_patience)
-        siglongjmp(before_call, signal_number);
-}
-
-static void handle(int signal_number, void (*handler)(int))
-{
-    struct sigaction action = {.sa_handler = handler, .sa_flags = SA_NODEFER | SA_RESTART};
-    sigaction(signal_number, &action, NULL);
-}
 
 void door_open(void)
 {
     for (int table = 0; table < TABLES; table++) {
         bool may_write = table == STATES || table == WORK || table == ANSWER;
-        room_open(&small_rooms[table], SMALL_BYTES, may_write);
-        room_open(&large_rooms[table], LARGE_BYTES, may_write);
+        rooms_open(&rooms[table], may_write);
     }
-    handle(SIGSEGV, on_trap);
-    handle(SIGBUS, on_trap);
-    handle(SIGILL, on_trap);
-    handle(SIGFPE, on_trap);
-    handle(SIGTRAP, on_trap);
-    handle(SIGABRT, on_trap);
-    handle(SIGALRM, on_second);
-    struct itimerval each_second = {{1, 0}, {1, 0}};
-    setitimer(ITIMER_REAL, &each_second, NULL);
+    guard_open();
 }
 
 /* ---- lending ---- */
 
-struct lent {
-    struct room *room;
-    size_t place, bytes;
-    void *pointer;
-};
-
-static struct lent lend(enum table table, const void *at, size_t bytes, enum flush flush)
+void door_lend_null(bool null)
 {
-    struct lent lent = {.bytes = bytes};
-    lent.room = bytes <= SMALL_BYTES ? &small_rooms[table] : &large_rooms[table];
-    lent.place = room_put(lent.room, at, bytes, flush);
-    lent.pointer = lent.room->lent + lent.place;
-    /* With no element, both ways of lending point straight at an untouchable page. */
-    if (bytes == 0)
-        lent.pointer = lend_null ? NULL
-                     : flush == FLUSH_END ? lent.room->lent + lent.room->size
-                                          : lent.room->lent - 2;
-    return lent;
-}
-
-static const void *found(const struct lent *lent)
-{
-    return lent->room->own + lent->place;
+    lend_null(null);
 }
 
 static void lend_all(struct lent lent[TABLES], const struct call *call, enum flush flush)
 {
     static const uint32_t unwritten[4] = {0xdeadbeef, 0xdeadbeef, 0xdeadbeef, 0xdeadbeef};
-    lent[KINDS] = lend(KINDS, call->kinds.at, call->kinds.length, flush);
-    lent[STATES] = lend(STATES, call->states.at, call->states.length, flush);
-    lent[TYPES] = lend(TYPES, call->types.at, call->types.length, flush);
-    lent[GATES] = lend(GATES, call->gates.at, 2 * call->gates.length, flush);
-    lent[SOURCES] = lend(SOURCES, call->sources.at, 2 * call->sources.length, flush);
-    lent[DRAINS] = lend(DRAINS, call->drains.at, 2 * call->drains.length, flush);
-    lent[CHANGE_NODES] = lend(CHANGE_NODES, call->change_nodes.at,
+    lent[KINDS] = lend(&rooms[KINDS], call->kinds.at, call->kinds.length, flush);
+    lent[STATES] = lend(&rooms[STATES], call->states.at, call->states.length, flush);
+    lent[TYPES] = lend(&rooms[TYPES], call->types.at, call->types.length, flush);
+    lent[GATES] = lend(&rooms[GATES], call->gates.at, 2 * call->gates.length, flush);
+    lent[SOURCES] = lend(&rooms[SOURCES], call->sources.at, 2 * call->sources.length, flush);
+    lent[DRAINS] = lend(&rooms[DRAINS], call->drains.at, 2 * call->drains.length, flush);
+    lent[CHANGE_NODES] = lend(&rooms[CHANGE_NODES], call->change_nodes.at,
                               2 * call->change_nodes.length, flush);
-    lent[CHANGE_STATES] = lend(CHANGE_STATES, call->change_states.at,
+    lent[CHANGE_STATES] = lend(&rooms[CHANGE_STATES], call->change_states.at,
                                call->change_states.length, flush);
-    lent[WORK] = lend(WORK, call->work.at, 2 * call->work.length, flush);
-    lent[ANSWER] = lend(ANSWER, unwritten, sizeof unwritten, flush);
+    lent[WORK] = lend(&rooms[WORK], call->work.at, 2 * call->work.length, flush);
+    lent[ANSWER] = lend(&rooms[ANSWER], unwritten, sizeof unwritten, flush);
 }
 
-static void call_library(const struct call *call, struct lent lent[TABLES])
+/* A call and what it is lent, for the guard. */
+struct lent_call {
+    const struct call *call;
+    struct lent *lent;
+};
+
+static void call_library(const void *made)
 {
+    const struct call *call = ((const struct lent_call *)made)->call;
+    const struct lent *lent = ((const struct lent_call *)made)->lent;
     const uint8_t *kinds = lent[KINDS].pointer, *types = lent[TYPES].pointer;
     const uint16_t *gates = lent[GATES].pointer, *sources = lent[SOURCES].pointer,
                    *drains = lent[DRAINS].pointer, *change_nodes = lent[CHANGE_NODES].pointer;
@@ -173,55 +107,10 @@ static void call_library(const struct call *call, struct lent lent[TABLES])
 /* Returns 0, or the signal that ended the call. */
 static int call_guarded(const struct call *call, struct lent lent[TABLES])
 {
-    int trapped = sigsetjmp(before_call, 0);
-    if (trapped == 0) {
-        seconds_in_call = 0;
-        in_call = 1;
-        call_library(call, lent);
-    }
-    in_call = 0;
-    return trapped;
+    return guard_call(call_library, &(struct lent_call){call, lent});
 }
 
 /* ---- reports ---- */
-
-void door_now_checking(const char *check, uint64_t number, const char *replay)
-{
-    check_name = check;
-    check_number = number;
-    check_replay = replay;
-}
-
-void door_lend_null(bool null)
-{
-    lend_null = null;
-}
-
-static uint64_t findings(void)
-{
-    return door_counts.differences + door_counts.traps + door_counts.stray;
-}
-
-static bool report_wanted(void)
-{
-    return findings() < REPORTS;
-}
-
-static void count_finding(uint64_t *count)
-{
-    ++*count;
-    if (findings() >= door_enough) {
-        printf("the check ends here: %" PRIu64 " differences, %" PRIu64 " traps, %" PRIu64
-               " stray writes\n", door_counts.differences, door_counts.traps, door_counts.stray);
-        exit(1);
-    }
-}
-
-static void report_head(const char *what)
-{
-    printf("\n%s: %s, number %" PRIu64 "; replay: host %s %s --from %" PRIu64 " --networks 1\n",
-           what, check_name, check_number, check_name, check_replay, check_number);
-}
 
 static void print_states(const char *what, const uint8_t *states, size_t length)
 {
@@ -263,62 +152,38 @@ static void print_call(const struct call *call, enum flush flush)
 
 static void report_trap(const struct call *call, enum flush flush, int trapped)
 {
-    if (report_wanted()) {
-        report_head(trapped == SIGALRM ? "TRAP (the call runs on)" : "TRAP");
-        printf("  signal %d\n", trapped);
+    if (guard_tells_trap(trapped))
         print_call(call, flush);
-    }
-    count_finding(&door_counts.traps);
+    guard_found(&door_counts.traps);
 }
 
 static void report_stray(const struct call *call, enum flush flush, const char *table)
 {
-    if (report_wanted()) {
-        report_head("STRAY WRITE");
+    if (guard_tells("STRAY WRITE")) {
         printf("  beside the %s\n", table);
         print_call(call, flush);
     }
-    count_finding(&door_counts.stray);
+    guard_found(&door_counts.stray);
 }
 
 static void report_difference(const struct call *call, enum flush flush, const char *where,
                               const struct outcome *wanted, const struct lent lent[TABLES])
 {
-    const uint32_t *got = found(&lent[ANSWER]), *want = wanted->answer;
-    if (report_wanted()) {
-        report_head("DIFFERENCE");
+    const uint32_t *got = lent_now(&lent[ANSWER]), *want = wanted->answer;
+    if (guard_tells("DIFFERENCE")) {
         printf("  in the %s\n", where);
         print_call(call, flush);
         printf("  wanted answer %u place %u counts %u %u; got %u %u %u %u\n", want[0], want[1],
                want[2], want[3], got[0], got[1], got[2], got[3]);
         if (entry_takes_states(call->entry)) {
             print_states("states wanted", wanted->states, call->states.length);
-            print_states("states got   ", found(&lent[STATES]), call->states.length);
+            print_states("states got   ", lent_now(&lent[STATES]), call->states.length);
         }
     }
-    count_finding(&door_counts.differences);
-}
-
-void door_difference(const char *what)
-{
-    if (report_wanted()) {
-        report_head("DIFFERENCE");
-        printf("  %s\n", what);
-    }
-    count_finding(&door_counts.differences);
-}
-
-bool door_clean(void)
-{
-    return door_counts.differences == 0 && door_counts.traps == 0 && door_counts.stray == 0;
+    guard_found(&door_counts.differences);
 }
 
 /* ---- comparing ---- */
-
-static bool same(const struct lent *lent, const void *wanted)
-{
-    return lent->bytes == 0 || memcmp(found(lent), wanted, lent->bytes) == 0;
-}
 
 /* Whether nothing was written beside the tables. */
 static bool kept_within(const struct call *call, enum flush flush, const struct lent lent[TABLES])
@@ -344,11 +209,11 @@ static bool try_flush(const struct call *call, const struct outcome *wanted, enu
     int trapped = call_guarded(call, lent);
 
     const char *where = NULL;
-    if (!same(&lent[ANSWER], wanted->answer))
+    if (!lent_same(&lent[ANSWER], wanted->answer))
         where = "answer";
-    else if (!same(&lent[STATES], wanted->states))
+    else if (!lent_same(&lent[STATES], wanted->states))
         where = "states";
-    else if (!same(&lent[WORK], wanted->work))
+    else if (!lent_same(&lent[WORK], wanted->work))
         where = "work area";
     if (trapped)
         report_trap(call, flush, trapped);
@@ -366,9 +231,9 @@ bool door_ask(struct call *call, uint32_t answer[4])
     int trapped = call_guarded(call, lent);
     if (trapped)
         report_trap(call, FLUSH_END, trapped);
-    memcpy(call->states.at, found(&lent[STATES]), call->states.length);
-    memcpy(call->work.at, found(&lent[WORK]), 2 * call->work.length);
-    memcpy(answer, found(&lent[ANSWER]), 4 * sizeof *answer);
+    memcpy(call->states.at, lent_now(&lent[STATES]), call->states.length);
+    memcpy(call->work.at, lent_now(&lent[WORK]), 2 * call->work.length);
+    memcpy(answer, lent_now(&lent[ANSWER]), 4 * sizeof *answer);
     return kept_within(call, FLUSH_END, lent) && !trapped;
 }
 

@@ -1,7 +1,7 @@
 /*
    The door: makes a call of the library on lent memory, in both ways of lending
-   it, and compares all that comes back with what must come back. It counts, and
-   reports what differs with the words that replay it.
+   it, and compares all that comes back with what must come back. What differs is
+   counted and reported (guard.h).
 */
 #ifndef OUTSIDE_DOOR_H
 #define OUTSIDE_DOOR_H
@@ -10,28 +10,10 @@
 
 #include "brute.h"
 #include "call.h"
-
-struct door_counts {
-    uint64_t calls;       /* of the library */
-    uint64_t differences; /* calls with another answer, other states or another work area */
-    uint64_t traps;       /* calls that trapped or ran on */
-    uint64_t stray;       /* calls that wrote beside the tables lent */
-};
-
-extern struct door_counts door_counts;
-
-/* Seconds until a call counts as running on. */
-extern int door_patience;
-
-/* After so many findings the program ends, with status 1. */
-extern uint64_t door_enough;
+#include "guard.h"
 
 /* Makes the memory to lend and sets up the handlers of traps. */
 void door_open(void);
-
-/* What is being checked, for reports: the check's name, the number of the case
-   within it, and the options that replay it. The strings are kept, not copied. */
-void door_now_checking(const char *check, uint64_t number, const char *replay);
 
 /* What a call must answer and leave. */
 struct outcome {
@@ -55,11 +37,5 @@ bool door_ask(struct call *call, uint32_t answer[4]);
 /* A table of length 0 is lent as NULL from now on, or as a pointer to an
    untouchable page. */
 void door_lend_null(bool null);
-
-/* A difference found otherwise than by a call. */
-void door_difference(const char *what);
-
-/* Whether nothing was found. */
-bool door_clean(void);
 
 #endif

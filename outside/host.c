@@ -1,12 +1,13 @@
 /*
    The outside check: a C program that links the library, calls it as the
    group's shell would, and compares everything that comes back with the
-   brute-force program.
+   brute-force program and the plain reader.
 
-       host [--seed S] [--from K] [--networks N] [--small-part P] [--patience SECONDS]
-            [--enough FINDINGS] [CHECK...]
+       host [--seed S] [--from K] [--networks N] [--texts N] [--small-part P]
+            [--claims FILE] [--patience SECONDS] [--enough FINDINGS] [CHECK...]
 
-   The checks are bench, refusals, full, small and random; all if none is named.
+   The checks are bench, refusals, full, small, random, texts and, of a file, claims;
+   all if none is named.
    Ends with status 0 only if there was no difference, no trap and no stray write.
 */
 #define _POSIX_C_SOURCE 200809L
@@ -20,13 +21,15 @@
 #include <unistd.h>
 
 #include "door.h"
+#include "text_door.h"
 
 static const struct {
     const char *name;
     void (*check)(const struct options *options);
 } checks[] = {
     {"bench", check_bench_set}, {"refusals", check_refusals}, {"full", check_full_size},
-    {"small", check_small},     {"random", check_random},
+    {"small", check_small},     {"random", check_random},     {"texts", check_texts},
+    {"claims", check_claims},
 };
 enum { CHECKS = sizeof checks / sizeof *checks };
 
@@ -64,6 +67,14 @@ static uint64_t number_after(int *at, int count, char **words)
     exit(2);
 }
 
+static const char *word_after(int *at, int count, char **words)
+{
+    if (++*at < count)
+        return words[*at];
+    fprintf(stderr, "host: %s wants a file\n", words[*at - 1]);
+    exit(2);
+}
+
 static void run_check(int k, const struct options *options)
 {
     double began = now();
@@ -78,7 +89,7 @@ static void run_check(int k, const struct options *options)
 
 int main(int count, char **words)
 {
-    struct options options = {.seed = 1, .networks = 20000, .small_part = 25};
+    struct options options = {.seed = 1, .networks = 20000, .texts = 5000, .small_part = 25};
     bool chosen[CHECKS] = {false}, any = false;
 
     for (int at = 1; at < count; at++) {
@@ -89,6 +100,10 @@ int main(int count, char **words)
             options.from = number_after(&at, count, words);
         else if (strcmp(words[at], "--networks") == 0)
             options.networks = number_after(&at, count, words);
+        else if (strcmp(words[at], "--texts") == 0)
+            options.texts = number_after(&at, count, words);
+        else if (strcmp(words[at], "--claims") == 0)
+            options.claims = word_after(&at, count, words);
         else if (strcmp(words[at], "--small-part") == 0)
             options.small_part = (uint32_t)number_after(&at, count, words);
         else if (strcmp(words[at], "--patience") == 0)
@@ -109,8 +124,9 @@ int main(int count, char **words)
              options.seed, options.small_part);
 
     door_open();
+    text_door_open();
     for (int k = 0; k < CHECKS; k++)
-        if (!any || chosen[k])
+        if (chosen[k] || (!any && (checks[k].check != check_claims || options.claims != NULL)))
             run_check(k, &options);
 
     printf("outside check, seed %" PRIu64 ": %" PRIu64 " calls, %" PRIu64 " differences, %" PRIu64

@@ -9,6 +9,9 @@
 #include <unistd.h>
 
 enum { FILLING = 0xa5 };
+enum { SMALL_BYTES = 4096, LARGE_BYTES = 70000 * 2 };
+
+static bool null_for_nothing;
 
 static void *mapped(void *result, const char *what)
 {
@@ -67,4 +70,41 @@ bool room_strayed(struct room *room, size_t place, size_t bytes)
     if (strayed)
         memset(room->own, FILLING, room->size);
     return strayed;
+}
+
+/* ---- tables ---- */
+
+void rooms_open(struct rooms *rooms, bool may_write)
+{
+    room_open(&rooms->small, SMALL_BYTES, may_write);
+    room_open(&rooms->large, LARGE_BYTES, may_write);
+}
+
+struct lent lend(struct rooms *rooms, const void *at, size_t bytes, enum flush flush)
+{
+    struct lent lent = {.bytes = bytes};
+    lent.room = bytes <= SMALL_BYTES ? &rooms->small : &rooms->large;
+    lent.place = room_put(lent.room, at, bytes, flush);
+    lent.pointer = lent.room->lent + lent.place;
+    /* With no element, both ways of lending point straight at an untouchable page. */
+    if (bytes == 0)
+        lent.pointer = null_for_nothing ? NULL
+                     : flush == FLUSH_END ? lent.room->lent + lent.room->size
+                                          : lent.room->lent - 2;
+    return lent;
+}
+
+const void *lent_now(const struct lent *lent)
+{
+    return lent->room->own + lent->place;
+}
+
+bool lent_same(const struct lent *lent, const void *wanted)
+{
+    return lent->bytes == 0 || memcmp(lent_now(lent), wanted, lent->bytes) == 0;
+}
+
+void lend_null(bool null)
+{
+    null_for_nothing = null;
 }

@@ -30,4 +30,31 @@ size_t room_put(struct room *room, const void *table, size_t bytes, enum flush f
    the filling is made good. */
 bool room_strayed(struct room *room, size_t place, size_t bytes);
 
+/* A table's two rooms: one page, which is quickly looked over, and one for the
+   longest tables of the check. */
+struct rooms {
+    struct room small, large;
+};
+
+void rooms_open(struct rooms *rooms, bool may_write);
+
+/* A table as it is lent. */
+struct lent {
+    struct room *room;
+    size_t place, bytes;
+    void *pointer; /* what the library is handed */
+};
+
+struct lent lend(struct rooms *rooms, const void *at, size_t bytes, enum flush flush);
+
+/* What the table holds now, in the host's view. */
+const void *lent_now(const struct lent *lent);
+
+/* Whether the table holds just this. */
+bool lent_same(const struct lent *lent, const void *wanted);
+
+/* A table of length 0 is lent as NULL from now on, or as a pointer to an
+   untouchable page. */
+void lend_null(bool null);
+
 #endif

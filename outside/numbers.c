@@ -1,6 +1,7 @@
 /*
    The numbers of the header against those of the rules, when the outside check
-   is compiled: brute force has numbers of its own and never reads the header.
+   is compiled: brute force and the plain reader have numbers of their own and never
+   read the header.
 */
 #include "twistdory.h"
 
@@ -19,5 +20,6 @@ _Static_assert(TWISTDORY_ANSWER == 0 && TWISTDORY_PLACE == 1 && TWISTDORY_FIRST_
                && TWISTDORY_SECOND_COUNT == 3, "places of the four numbers");
 _Static_assert(TWISTDORY_DONE == 0 && TWISTDORY_SIZE == 1 && TWISTDORY_LIMIT == 2
                && TWISTDORY_KIND == 3 && TWISTDORY_WIRE == 4 && TWISTDORY_STATE == 5
-               && TWISTDORY_CHANGE == 6 && TWISTDORY_START == 7 && TWISTDORY_OSCILLATES == 8,
-               "answers");
+               && TWISTDORY_CHANGE == 6 && TWISTDORY_START == 7 && TWISTDORY_OSCILLATES == 8
+               && TWISTDORY_TEXT == 9, "answers");
+_Static_assert(TWISTDORY_MAX_TEXT == 65535 && TWISTDORY_MAX_NAME == 63, "texts");

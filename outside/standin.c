@@ -1,8 +1,8 @@
 /*
-   A stand-in for the library: the five calls of the header over the plain C
-   simulator of compare/, with refusals and work area of its own. It tests the
-   outside check itself: sound, it must pass, and with a fault planted in it, it
-   must be caught. Nothing else uses it.
+   A stand-in for the library: the five calls about a network over the plain C
+   simulator of compare/, with refusals and work area of its own; the calls about a
+   text stand in standin_text.c. It tests the outside check itself: sound, it must
+   pass, and with a fault planted in it, it must be caught. Nothing else uses it.
 */
 #include <stdbool.h>
 #include <string.h>

@@ -3,13 +3,15 @@
    method (compare/plain.c), on real shapes (compare/shapes.c), in one run. For
    each shape: the time of one step, of an input change by a unit run and by a
    ternary run, and the ratio; a reset; then how a step's cost grows with the
-   network. What the two answer is compared: they must agree.
+   network. Then reading a text (compare/texts.c), beside a plain C reader with a
+   hash table (compare/hashed.c). What the two answer is compared: they must agree.
 
        bench [--seed S] [--emulated]
 
    Times are the best of several repeats. The library's time includes its checks
    of everything lent and the clearing of the work area; the plain simulator
    trusts its tables and lists each node's neighbours once, outside the times.
+   The plain reader refuses what the library does, but fills the tables as it goes.
 */
 #define _POSIX_C_SOURCE 200809L
 #include <stdio.h>
@@ -17,8 +19,10 @@
 #include <string.h>
 #include <time.h>
 
+#include "hashed.h"
 #include "plain.h"
 #include "shapes.h"
+#include "text_shapes.h"
 #include "twistdory.h"
 
 enum { LIMIT = 5000 }; /* of unit runs: more steps than any shape needs to settle */
@@ -133,22 +137,40 @@ static void plain_ternary(struct result *result, const struct change *change)
 
 /* ---- measuring ---- */
 
-/* Seconds for one call from the states of `start`; `result` is what it gives.
-   Repeats are made while they take little time, and the best one counts. */
+/* Repeats are made while they take little time, and the best one counts. */
+struct repeats {
+    double began, best;
+    int count;
+};
+
+static struct repeats first_repeat(void)
+{
+    return (struct repeats){now(), 1e9, 0};
+}
+
+static bool once_more(const struct repeats *repeats)
+{
+    return repeats->count < 1000 && now() - repeats->began < (repeats->count < 3 ? 2 : 0.2);
+}
+
+static void repeated(struct repeats *repeats, double taken)
+{
+    repeats->best = taken < repeats->best ? taken : repeats->best;
+    repeats->count++;
+}
+
+/* Seconds for one call from the states of `start`; `result` is what it gives. */
 static double seconds(simulate *call, const struct result *start, const struct change *change,
                       struct result *result)
 {
-    double best = 1e9, began = now();
-    int repeats = 0;
-    do {
+    struct repeats repeats = first_repeat();
+    while (once_more(&repeats)) {
         *result = *start;
         double before = now();
         call(result, change);
-        double taken = now() - before;
-        best = taken < best ? taken : best;
-        repeats++;
-    } while (repeats < 1000 && now() - began < (repeats < 3 ? 2 : 0.2));
-    return best;
+        repeated(&repeats, now() - before);
+    }
+    return repeats.best;
 }
 
 struct times {
@@ -352,6 +374,121 @@ static void bench_growth(uint64_t seed)
     }
 }
 
+/* ---- reading a text ---- */
+
+/* What a reader makes of it. */
+struct reading {
+    bool taken;
+    uint32_t nodes, transistors;
+    uint8_t kinds[SHAPE_NODES], types[SHAPE_TRANSISTORS];
+    uint16_t gates[SHAPE_TRANSISTORS], sources[SHAPE_TRANSISTORS], drains[SHAPE_TRANSISTORS];
+};
+
+typedef void read_text(const struct text_shape *text, struct reading *reading);
+
+static void library_read(const struct text_shape *text, struct reading *reading)
+{
+    const size_t n = SHAPE_NODES, t = SHAPE_TRANSISTORS;
+    uint32_t answer[4];
+    twistdory_read_sim(text->bytes, text->length, reading->kinds, n, reading->types, t,
+                       reading->gates, t, reading->sources, t, reading->drains, t, answer);
+    reading->taken = answer[TWISTDORY_ANSWER] == TWISTDORY_DONE;
+    reading->nodes = answer[TWISTDORY_FIRST_COUNT];
+    reading->transistors = answer[TWISTDORY_SECOND_COUNT];
+}
+
+static void library_names(const struct text_shape *text, struct reading *reading)
+{
+    static uint16_t starts[SHAPE_NODES];
+    static uint8_t sizes[SHAPE_NODES];
+    uint32_t answer[4];
+    twistdory_node_names(text->bytes, text->length, starts, SHAPE_NODES, sizes, SHAPE_NODES,
+                         answer);
+    reading->taken = answer[TWISTDORY_ANSWER] == TWISTDORY_DONE;
+    reading->nodes = answer[TWISTDORY_FIRST_COUNT];
+    reading->transistors = answer[TWISTDORY_SECOND_COUNT];
+}
+
+/* The same task: what is read is handed over when the text is taken. */
+static void plain_read(const struct text_shape *text, struct reading *reading)
+{
+    static struct hashed hashed;
+    reading->taken = hashed_read(&hashed, text->bytes, text->length, SHAPE_NODES,
+                                 SHAPE_TRANSISTORS);
+    reading->nodes = (uint32_t)hashed.nodes;
+    reading->transistors = (uint32_t)hashed.transistors;
+    if (!reading->taken)
+        return;
+    size_t cells = hashed.transistors * sizeof hashed.gates[0];
+    memcpy(reading->kinds, hashed.kinds, hashed.nodes);
+    memcpy(reading->types, hashed.types, hashed.transistors);
+    memcpy(reading->gates, hashed.gates, cells);
+    memcpy(reading->sources, hashed.sources, cells);
+    memcpy(reading->drains, hashed.drains, cells);
+}
+
+static double reading_seconds(read_text *call, const struct text_shape *text,
+                              struct reading *reading)
+{
+    struct repeats repeats = first_repeat();
+    while (once_more(&repeats)) {
+        double before = now();
+        call(text, reading);
+        repeated(&repeats, now() - before);
+    }
+    return repeats.best;
+}
+
+static bool same_counts(const struct reading *one, const struct reading *other)
+{
+    return one->taken && other->taken && one->nodes == other->nodes
+        && one->transistors == other->transistors;
+}
+
+static bool same_tables(const struct reading *one, const struct reading *other)
+{
+    size_t n = one->nodes, t = one->transistors, cells = t * sizeof one->gates[0];
+    return memcmp(one->kinds, other->kinds, n) == 0 && memcmp(one->types, other->types, t) == 0
+        && memcmp(one->gates, other->gates, cells) == 0
+        && memcmp(one->sources, other->sources, cells) == 0
+        && memcmp(one->drains, other->drains, cells) == 0;
+}
+
+static void bench_text(void (*make)(struct text_shape *text, uint64_t seed), uint64_t seed)
+{
+    static struct text_shape text;
+    static struct reading from_library, from_names, from_plain;
+    make(&text, seed);
+    double plain_time = reading_seconds(plain_read, &text, &from_plain);
+    struct times read = {.library = reading_seconds(library_read, &text, &from_library),
+                         .plain = plain_time};
+    struct times names = {.library = reading_seconds(library_names, &text, &from_names),
+                          .plain = plain_time};
+    printf("%-28s %5zu %5zu %5u %5u |", text.name, text.length, text.lines, from_library.nodes,
+           from_library.transistors);
+    print_times(&read, 1e3);
+    printf(" | ");
+    print_times(&names, 1e3);
+    printf("\n");
+    if (!same_counts(&from_library, &from_plain) || !same_counts(&from_names, &from_plain)
+        || !same_tables(&from_library, &from_plain)) {
+        printf("%s: THE TWO READERS DIFFER\n", text.name);
+        all_agree = false;
+    }
+    fflush(stdout);
+}
+
+static void bench_texts(uint64_t seed)
+{
+    printf("\nMilliseconds: reading a text; the names of its nodes, beside the same plain C.\n");
+    printf("%-28s %5s %5s %5s %5s | %9s %9s %7s | %10s %9s %7s\n", "text", "bytes", "lines",
+           "nodes", "trans", "read: lib", "plain C", "ratio", "names: lib", "plain C", "ratio");
+    bench_text(text_short_names, seed);
+    bench_text(text_extracted, seed);
+    bench_text(text_few_names, seed);
+    bench_text(text_one_chain, seed);
+}
+
 int main(int count, char **words)
 {
     uint64_t seed = 1;
@@ -369,8 +506,10 @@ int main(int count, char **words)
     bench_shapes(seed);
     bench_reset(seed);
     bench_growth(seed);
+    bench_texts(seed);
     printf("\n%s; %.0f s in all\n",
-           all_agree ? "library and plain C agree on every state and count" : "THEY DIFFER",
+           all_agree ? "library and plain C agree on every state, count and table read"
+                     : "THEY DIFFER",
            now() - began);
     return all_agree ? 0 : 1;
 }

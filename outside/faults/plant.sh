@@ -4,8 +4,10 @@
 #
 #   plant.sh LIBRARY [quick]
 #
-# LIBRARY is the archive on which the comparator's and the shim's faults are tried. With `quick` a
+# LIBRARY is the archive on which the comparators' and the shims' faults are tried. With `quick` a
 # fault is left as soon as one check has caught it. Exit status: 0 if every fault is caught.
+# Faults of the calls about a network are tried by the checks of these, and faults of the calls
+# about a text by theirs.
 set -u
 cd "$(dirname "$0")/../.." || exit 2
 library=$1 quick=${2:-}
@@ -20,31 +22,35 @@ build() { # shellcheck disable=SC2086
     $cc $flags -c -o "$room/$1.o" "$2"
 }
 
-door='door lend'
-checks='check_bench_set check_refusals check_full_size check_small check_random'
-compare='network brute'
-for part in host $checks arrivals $door standin; do build "$part" "outside/$part.c" || exit 2; done
-for part in $compare plain; do build "$part" "compare/$part.c" || exit 2; done
-build shim $here/shim.c || exit 2
+door='door guard lend' text_door='text_door'
+checks='check_bench_set check_refusals check_full_size check_small check_random check_texts check_claims'
+compare='network brute' text_compare='texts reader'
+for part in host $checks arrivals $door $text_door standin standin_text; do
+    build "$part" "outside/$part.c" || exit 2
+done
+for part in $compare $text_compare plain hashed; do build "$part" "compare/$part.c" || exit 2; done
+for part in shim shim_text; do build "$part" "$here/$part.c" || exit 2; done
+sh outside/texts/check.sh --claims 1 300 "$room/claims" || exit 2
 
 objects() { for part in "$@"; do printf '%s/%s.o ' "$room" "$part"; done; }
 
 # link the two programs with or without the shim, over the stand-in or the library
 link() { # WITH...
     # shellcheck disable=SC2046,SC2086
-    $cc -o "$room/host" $(objects host $checks $door $compare) "$@" \
+    $cc -o "$room/host" $(objects host $checks $door $text_door $compare $text_compare) "$@" \
         && $cc -o "$room/arrivals" $(objects arrivals $door $compare) "$@"
 }
 
-# says which checks end with status 1
-caught_by() {
-    for check in bench random refusals full small arrivals; do
+# says which of the checks named end with status 1
+caught_by() { # CHECK...
+    for check in "$@"; do
         case $check in
         arrivals) words="--networks 20000 --enough 1" ;;
-        *) words="$check --networks 1500 --small-part 3000 --patience 5 --enough 1" ;;
+        *) words="$check --networks 1500 --texts 1500 --small-part 3000 --patience 5 --enough 1" ;;
         esac
+        [ "$check" = claims ] && words="$words --claims $room/claims"
         program=$room/host
-        [ $check = arrivals ] && program=$room/arrivals
+        [ "$check" = arrivals ] && program=$room/arrivals
         # shellcheck disable=SC2086
         $run "$program" $words >"$room/said" 2>&1
         status=$?
@@ -58,6 +64,7 @@ caught_by() {
     done
 }
 
+text_wraps=-Wl,--wrap=twistdory_read_sim,--wrap=twistdory_node_name,--wrap=twistdory_node_names
 planted=0 caught=0
 while IFS= read -r name; do
     case $name in '' | '#'*) continue ;; esac
@@ -78,12 +85,18 @@ while IFS= read -r name; do
         continue
     fi
     case $part in
-    plain | standin) link "$room/standin.o" "$room/plain.o" ;;
-    brute) link "$library" ;;
+    plain | standin | hashed | standin_text)
+        # shellcheck disable=SC2046
+        link $(objects standin standin_text plain hashed) ;;
+    brute | reader) link "$library" ;;
     shim) link -Wl,--wrap=twistdory_step,--wrap=twistdory_unit_run,--wrap=twistdory_ternary_run \
         "$room/shim.o" "$library" ;;
+    shim_text) link "$text_wraps" "$room/shim_text.o" "$library" ;;
     esac || exit 2
-    by=$(caught_by)
+    case $part in
+    hashed | standin_text | reader | shim_text) by=$(caught_by texts claims) ;;
+    *) by=$(caught_by bench random refusals full small arrivals) ;;
+    esac
     case $by in
     *difference* | *trap* | *stray*) caught=$((caught + 1)) && echo "caught: $name: $by" ;;
     *) echo "NOT CAUGHT: $name ${by:+($by)}" ;;
