@@ -110,7 +110,7 @@ void text_one_chain(struct text_shape *text, uint64_t seed)
 
 /*
    NAND gates in cells of a few units, written as from a layout: names that are paths,
-   of 10 to 24 bytes, sizes, positions and attributes behind them, and lines of
+   of 12 to 22 bytes, sizes, positions and attributes behind them, and lines of
    capacitances, areas and comments. A gate's inputs are outputs of earlier ones.
 */
 void text_extracted(struct text_shape *text, uint64_t seed)

@@ -46,7 +46,7 @@ readSizes text net = ltb mostBytes (length text) ∷ checkSizes net
 unfoldable pub readOutcome : List ℕ → Net → Read
 readOutcome text net = cond (any (readSizes text net)) (readBy Size net) (readInto (reading text (nodes net) (transistors net)) net)
 
--- the reading of a text in the largest tables that may be lent; a text that is too long is not read
+-- the reading of a text in the largest tables that may be lent
 unfoldable pub fullReading : List ℕ → Reading
 fullReading text = reading text mostNodes mostTransistors
 
@@ -55,7 +55,7 @@ abbrev pub nameIn : Reading → ℕ → Span
 nameIn (taken m) k = spanAt (m .names) k
 nameIn (refused line) k = emptyPart
 
--- and for a text that no tables could take
+-- and for a text that is too long, or that no tables could take
 unfoldable pub namePart : List ℕ → ℕ → Span
 namePart text k = cond (ltb mostBytes (length text)) emptyPart (nameIn (fullReading text) k)
 
