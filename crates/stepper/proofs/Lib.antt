@@ -1,2 +1,7 @@
--- From what the parts of a step leave to its three tables.
-pub mod Least
+-- From what the parts of a step leave in the work area to the step.
+mod Drawn
+mod Told
+mod Begins
+mod Fills
+mod Tables
+mod Steps

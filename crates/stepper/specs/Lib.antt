@@ -1,2 +1,2 @@
 -- What the functions within a step promise one another.
-pub mod Start
+pub mod Step

@@ -1,2 +1,3 @@
--- What the functions that pass strengths along promise one another.
-pub mod Relax
+-- Strengths that spread along branches: the whole table, and one level of it.
+pub mod Spread
+pub mod Level
