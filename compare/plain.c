@@ -1,17 +1,19 @@
 /*
-   A plain C simulator by Bryant's linear method: see plain.h.
+   A plain C simulator by joined sets: see plain.h.
 
-   A node's state is decided by what can reach it. Three tables of strengths are
-   filled, each by spreading from the strongest sources first:
+   A step takes the nodes set by set. A set is what closed transistors join,
+   never through an input. Its strongest sources are found while it is flooded;
+   where no unknown transistor touches it, they decide all its nodes at once.
 
-   - certain: the strongest source that surely reaches a node, through closed
-     transistors alone;
-   - against 0: the strongest source other than 0 that may reach it, through
+   The other sets are kept, and two tables of strengths are filled for their
+   nodes, each by spreading from the strongest first:
+
+   - against 0: the strongest source other than 0 that may reach a node, through
      transistors that are not open, where nothing certain on the way is stronger;
    - against 1: the same for sources other than 1.
 
    A node is 0 where nothing stands against 0, 1 where nothing stands against 1,
-   and X otherwise.
+   and X otherwise. What is certain at a node is the strength of its set.
 */
 #include "plain.h"
 
@@ -21,22 +23,27 @@
 
 enum { NORMAL, PULLUP, INPUT };
 enum { LOW, HIGH, UNKNOWN };
-enum { N_TYPE, P_TYPE, D_TYPE };
 enum { OPEN, MAYBE, CLOSED };
-enum { NOTHING, WEAKEST = 1, STRONGEST = 3 };
+enum { WEAKEST = 1, STRONGEST = 3 };
 
-/* One way out of a node: through a transistor to a node that is no input. */
+/* Which states sources have: LOW's bit, HIGH's, or both. */
+enum { SOME_LOW = 1, SOME_HIGH = 2 };
+
+/* One way out of a node: through a transistor to another. */
 struct way {
     uint16_t transistor, to;
 };
 
 struct plain {
     struct plain_network network;
-    uint32_t *first_way; /* of each node, and the end of the last one's */
+    uint32_t *first_way;  /* of each node, and the end of the last one's: none of inputs */
+    uint32_t *inputs_way; /* of each node: where its ways to inputs begin */
     struct way *ways;
-    uint8_t *standing;                            /* of each transistor */
-    uint8_t *certain, *against_low, *against_high; /* of each node */
-    uint16_t *bucket[STRONGEST + 1];              /* nodes to spread from, by strength */
+    uint8_t *standing;                   /* of each transistor */
+    uint8_t *seen;                       /* of each node */
+    uint8_t *against_low, *against_high; /* of each node that is kept: see `cell` */
+    uint16_t *members;                   /* those kept, and then the set being flooded */
+    uint16_t *waiting;                   /* nodes to spread from */
     uint8_t *next;
 };
 
@@ -58,16 +65,41 @@ static bool is_input(uint8_t kind)
     return kind >= INPUT;
 }
 
-static void count_way(struct plain *plain, uint16_t from, uint16_t to)
+static void count_way(struct plain *plain, uint16_t from)
 {
-    if (!is_input(plain->network.kinds[to]))
-        plain->first_way[from]++;
+    if (!is_input(plain->network.kinds[from]))
+        plain->first_way[from + 1]++;
 }
 
-static void enter_way(struct plain *plain, size_t transistor, uint16_t from, uint16_t to)
+/* Enters the way where it leads to an input or not, as asked. */
+static void enter_way(struct plain *plain, uint32_t *end, size_t transistor, uint16_t from,
+                      uint16_t to, bool to_input)
 {
-    if (!is_input(plain->network.kinds[to]))
-        plain->ways[--plain->first_way[from]] = (struct way){(uint16_t)transistor, to};
+    const uint8_t *kinds = plain->network.kinds;
+    if (!is_input(kinds[from]) && is_input(kinds[to]) == to_input)
+        plain->ways[end[from]++] = (struct way){(uint16_t)transistor, to};
+}
+
+static void list_ways(struct plain *plain)
+{
+    const struct plain_network *network = &plain->network;
+    for (size_t i = 0; i < network->transistors; i++) {
+        count_way(plain, network->sources[i]);
+        count_way(plain, network->drains[i]);
+    }
+    for (size_t v = 0; v < network->nodes; v++)
+        plain->first_way[v + 1] += plain->first_way[v];
+    uint32_t *end = room(network->nodes, sizeof *end);
+    memcpy(end, plain->first_way, network->nodes * sizeof *end);
+    for (int to_input = 0; to_input < 2; to_input++) {
+        for (size_t i = 0; i < network->transistors; i++) {
+            enter_way(plain, end, i, network->sources[i], network->drains[i], to_input);
+            enter_way(plain, end, i, network->drains[i], network->sources[i], to_input);
+        }
+        if (!to_input)
+            memcpy(plain->inputs_way, end, network->nodes * sizeof *end);
+    }
+    free(end);
 }
 
 struct plain *plain_open(const struct plain_network *network)
@@ -76,126 +108,175 @@ struct plain *plain_open(const struct plain_network *network)
     size_t nodes = network->nodes, transistors = network->transistors;
     plain->network = *network;
     plain->first_way = room(nodes, sizeof *plain->first_way);
+    plain->inputs_way = room(nodes, sizeof *plain->inputs_way);
     plain->ways = room(2 * transistors, sizeof *plain->ways);
     plain->standing = room(transistors, 1);
-    plain->certain = room(nodes, 1);
+    plain->seen = room(nodes, 1);
     plain->against_low = room(nodes, 1);
     plain->against_high = room(nodes, 1);
+    plain->members = room(nodes, sizeof *plain->members);
+    plain->waiting = room(nodes, sizeof *plain->waiting);
     plain->next = room(nodes, 1);
-    for (int strength = WEAKEST; strength <= STRONGEST; strength++)
-        plain->bucket[strength] = room(nodes, sizeof **plain->bucket);
-
-    for (size_t i = 0; i < transistors; i++) {
-        count_way(plain, network->sources[i], network->drains[i]);
-        count_way(plain, network->drains[i], network->sources[i]);
-    }
-    for (size_t v = 1; v <= nodes; v++)
-        plain->first_way[v] += plain->first_way[v - 1];
-    for (size_t i = transistors; i-- > 0;) {
-        enter_way(plain, i, network->sources[i], network->drains[i]);
-        enter_way(plain, i, network->drains[i], network->sources[i]);
-    }
+    list_ways(plain);
     return plain;
 }
 
 void plain_close(struct plain *plain)
 {
     free(plain->first_way);
+    free(plain->inputs_way);
     free(plain->ways);
     free(plain->standing);
-    free(plain->certain);
+    free(plain->seen);
     free(plain->against_low);
     free(plain->against_high);
+    free(plain->members);
+    free(plain->waiting);
     free(plain->next);
-    for (int strength = WEAKEST; strength <= STRONGEST; strength++)
-        free(plain->bucket[strength]);
     free(plain);
 }
 
 /* ---- one step ---- */
 
-static uint8_t standing_of(uint8_t type, uint8_t gate)
+/* By type, n, p or d, and gate. */
+static const uint8_t standing_of[3][3] = {
+    {OPEN, CLOSED, MAYBE}, {CLOSED, OPEN, MAYBE}, {CLOSED, CLOSED, CLOSED}};
+
+static const uint8_t states_of[3] = {SOME_LOW, SOME_HIGH, SOME_LOW | SOME_HIGH};
+
+/* The strongest sources of a set: how strong they are, and which states they have. */
+struct sources {
+    uint8_t strength, states;
+    bool all_known; /* no unknown transistor touches the set */
+};
+
+static void count_source(struct sources *sources, uint8_t strength, uint8_t states)
 {
-    if (type == D_TYPE)
-        return CLOSED;
-    if (gate == UNKNOWN)
-        return MAYBE;
-    return (type == N_TYPE) == (gate == HIGH) ? CLOSED : OPEN;
+    if (strength > sources->strength)
+        sources->strength = strength, sources->states = states;
+    else if (strength == sources->strength)
+        sources->states |= states;
 }
 
-static uint8_t strength_of(uint8_t kind)
+/* A cell has 2k + 1 for the strength k; 2k where there is none and nothing up to k may come. */
+static uint8_t cell(bool there, uint8_t strength)
 {
-    return is_input(kind) ? 3 : kind == PULLUP ? 2 : 1;
+    return (uint8_t)(there ? 2 * strength + 1 : 2 * (strength - 1));
 }
 
-static uint8_t source_state(const struct plain *plain, const uint8_t *states, size_t v)
+/* Floods the set of node v, whose members are put behind those kept; returns
+   where they end. What inputs may bring to a node is left in `against_low`. */
+static size_t flood(struct plain *plain, const uint8_t *states, uint16_t v, size_t kept,
+                    struct sources *sources)
 {
-    return plain->network.kinds[v] == PULLUP ? HIGH : states[v];
+    const uint8_t *kinds = plain->network.kinds, *standing = plain->standing;
+    const struct way *ways = plain->ways;
+    uint8_t *seen = plain->seen;
+    uint16_t *members = plain->members;
+    size_t end = kept;
+    members[end++] = v;
+    seen[v] = true;
+    for (size_t k = kept; k < end; k++) {
+        uint16_t from = members[k];
+        bool pullup = kinds[from] == PULLUP;
+        struct sources own = {pullup ? 2 : 1, pullup ? SOME_HIGH : states_of[states[from]], true};
+        uint8_t offered = 0;
+        uint32_t w = plain->first_way[from], last = plain->first_way[from + 1];
+        for (; w < plain->inputs_way[from]; w++) {
+            uint8_t stands = standing[ways[w].transistor];
+            uint16_t to = ways[w].to;
+            if (stands == MAYBE)
+                own.all_known = false;
+            else if (stands == CLOSED && !seen[to])
+                seen[to] = true, members[end++] = to;
+        }
+        for (; w < last; w++) {
+            uint8_t stands = standing[ways[w].transistor];
+            if (stands == CLOSED)
+                count_source(&own, STRONGEST, states_of[states[ways[w].to]]);
+            else if (stands == MAYBE)
+                offered |= states_of[states[ways[w].to]];
+        }
+        plain->against_low[from] = offered;
+        count_source(sources, own.strength, own.states);
+        sources->all_known &= own.all_known && offered == 0;
+    }
+    return end;
 }
 
-/* Spreads the strengths of a table over transistors that stand at `least` or
-   above, to nodes where nothing in `floor` is stronger. */
-static void spread(struct plain *plain, uint8_t *table, uint8_t least, const uint8_t *floor)
+/* Spreads the strengths of a table among the nodes kept, the strongest first. */
+static void spread(struct plain *plain, uint8_t *table, size_t kept)
 {
-    size_t count[STRONGEST + 1] = {0};
-    for (size_t v = 0; v < plain->network.nodes; v++)
-        if (table[v] != NOTHING)
-            plain->bucket[table[v]][count[table[v]]++] = (uint16_t)v;
-
+    const struct way *ways = plain->ways;
+    uint16_t *waiting = plain->waiting;
     for (uint8_t strength = STRONGEST; strength >= WEAKEST; strength--) {
-        uint16_t *bucket = plain->bucket[strength];
-        for (size_t k = 0; k < count[strength]; k++) {
-            uint16_t from = bucket[k];
-            if (table[from] != strength)
-                continue; /* taken over by a stronger source since */
-            for (uint32_t w = plain->first_way[from]; w < plain->first_way[from + 1]; w++) {
-                struct way way = plain->ways[w];
-                if (table[way.to] < strength && plain->standing[way.transistor] >= least
-                    && floor[way.to] <= strength) {
-                    table[way.to] = strength;
-                    bucket[count[strength]++] = way.to;
+        uint8_t has = cell(true, strength);
+        size_t end = 0;
+        for (size_t k = 0; k < kept; k++)
+            if (table[plain->members[k]] == has)
+                waiting[end++] = plain->members[k];
+        for (size_t k = 0; k < end; k++) {
+            uint16_t from = waiting[k];
+            for (uint32_t w = plain->first_way[from]; w < plain->inputs_way[from]; w++) {
+                uint16_t to = ways[w].to;
+                if (table[to] < has - 1 && plain->standing[ways[w].transistor] != OPEN) {
+                    table[to] = has;
+                    waiting[end++] = to;
                 }
             }
         }
     }
 }
 
-/* The sources that are not `state`, where nothing certain is stronger. */
-static void start_against(struct plain *plain, uint8_t *table, const uint8_t *states,
-                          uint8_t state)
+/* The set of node v is decided, or its members are kept; returns how many are. */
+static size_t take_set(struct plain *plain, const uint8_t *states, uint8_t *next, uint16_t v,
+                       size_t kept)
 {
-    for (size_t v = 0; v < plain->network.nodes; v++) {
-        uint8_t strength = strength_of(plain->network.kinds[v]);
-        bool counts = source_state(plain, states, v) != state && strength >= plain->certain[v];
-        table[v] = counts ? strength : NOTHING;
+    struct sources sources = {0, 0, true};
+    size_t end = flood(plain, states, v, kept, &sources);
+    if (sources.all_known) {
+        for (size_t k = kept; k < end; k++)
+            next[plain->members[k]] = (uint8_t)(sources.states - 1);
+        return kept;
     }
+    uint8_t low = cell(sources.states & SOME_HIGH, sources.strength);
+    uint8_t high = cell(sources.states & SOME_LOW, sources.strength);
+    for (size_t k = kept; k < end; k++) {
+        uint16_t member = plain->members[k];
+        uint8_t offered = plain->against_low[member];
+        plain->against_low[member] = offered & SOME_HIGH ? cell(true, STRONGEST) : low;
+        plain->against_high[member] = offered & SOME_LOW ? cell(true, STRONGEST) : high;
+    }
+    return end;
 }
 
 size_t plain_step(struct plain *plain, const uint8_t *states, uint8_t *next)
 {
     const struct plain_network *network = &plain->network;
     for (size_t i = 0; i < network->transistors; i++)
-        plain->standing[i] = standing_of(network->types[i], states[network->gates[i]]);
+        plain->standing[i] = standing_of[network->types[i]][states[network->gates[i]]];
 
-    for (size_t v = 0; v < network->nodes; v++)
-        plain->certain[v] = strength_of(network->kinds[v]);
-    memset(plain->against_low, NOTHING, network->nodes); /* no floor for the first table */
-    spread(plain, plain->certain, CLOSED, plain->against_low);
-    start_against(plain, plain->against_low, states, LOW);
-    spread(plain, plain->against_low, MAYBE, plain->certain);
-    start_against(plain, plain->against_high, states, HIGH);
-    spread(plain, plain->against_high, MAYBE, plain->certain);
-
-    size_t differing = 0;
+    size_t kept = 0;
+    memset(plain->seen, false, network->nodes);
     for (size_t v = 0; v < network->nodes; v++) {
-        uint8_t state = states[v];
-        if (!is_input(network->kinds[v]))
-            state = plain->against_low[v] == NOTHING    ? LOW
-                    : plain->against_high[v] == NOTHING ? HIGH
-                                                        : UNKNOWN;
-        differing += state != states[v];
-        next[v] = state;
+        if (is_input(network->kinds[v]))
+            next[v] = states[v];
+        else if (!plain->seen[v])
+            kept = take_set(plain, states, next, (uint16_t)v, kept);
     }
+    if (kept > 0) {
+        spread(plain, plain->against_low, kept);
+        spread(plain, plain->against_high, kept);
+        for (size_t k = 0; k < kept; k++) {
+            uint16_t v = plain->members[k];
+            next[v] = plain->against_low[v] % 2 == 0    ? LOW
+                      : plain->against_high[v] % 2 == 0 ? HIGH
+                                                        : UNKNOWN;
+        }
+    }
+    size_t differing = 0;
+    for (size_t v = 0; v < network->nodes; v++)
+        differing += next[v] != states[v];
     return differing;
 }
 

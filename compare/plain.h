@@ -1,7 +1,9 @@
 /*
-   A plain C simulator by Bryant's linear method, written for comparison: it
-   spreads from the strongest sources first and looks at each end of a
-   transistor a fixed number of times a step. It trusts its tables.
+   A plain C simulator, written for comparison: a strong one. It lists each
+   node's ways once, decides a joined set at once where no unknown transistor
+   touches it, and spreads from the strongest sources first in the others. It
+   looks at each end of a transistor a fixed number of times a step, and trusts
+   its tables.
 */
 #ifndef COMPARE_PLAIN_H
 #define COMPARE_PLAIN_H

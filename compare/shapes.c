@@ -90,22 +90,15 @@ void shape_inverter_chain(struct shape *shape, size_t inverters)
         last = inverter(shape, ground, last);
 }
 
-/* One long row of pass transistors from an input, listed in a shuffled order. */
-void shape_pass_chain(struct shape *shape, size_t nodes, uint64_t seed)
+/* One long row of pass transistors from an input. */
+void shape_pass_chain(struct shape *shape, size_t nodes)
 {
-    struct dice dice = dice_for(seed, nodes);
     begin(shape, "pass chain %zu", nodes);
     uint16_t clock = input(shape, HIGH), last = changed_input(shape, LOW);
     while (shape->nodes < nodes) {
         uint16_t next = node(shape, NORMAL);
         transistor(shape, N_TYPE, clock, last, next);
         last = next;
-    }
-    for (size_t left = shape->transistors; left > 1; left--) {
-        size_t i = left - 1, j = dice_below(&dice, (uint32_t)left);
-        uint16_t source = shape->sources[i], drain = shape->drains[i];
-        shape->sources[i] = shape->sources[j], shape->drains[i] = shape->drains[j];
-        shape->sources[j] = source, shape->drains[j] = drain;
     }
 }
 
@@ -229,6 +222,47 @@ void shape_adder(struct shape *shape, size_t bits)
     }
 }
 
+/* A row of transistors in series from a rail to `out`, and all of the other type
+   side by side from the other rail: NAND or NOR, or an inverter where it is one. */
+static void cmos_gate(struct shape *shape, uint8_t series_type, uint16_t series_rail,
+                      uint16_t other_rail, const uint16_t *gates, size_t width, uint16_t out)
+{
+    uint16_t last = series_rail;
+    for (size_t k = 0; k < width; k++) {
+        uint16_t next = k + 1 == width ? out : node(shape, NORMAL);
+        transistor(shape, series_type, gates[k], last, next);
+        transistor(shape, series_type == N_TYPE ? P_TYPE : N_TYPE, gates[k], other_rail, out);
+        last = next;
+    }
+}
+
+/* Static CMOS logic at random: NANDs, NORs and inverters of up to three inputs,
+   each taken from any of 32 inputs and of the gates before. */
+void shape_cmos_block(struct shape *shape, size_t transistors, uint64_t seed)
+{
+    enum { INPUTS = 32, WIDEST = 3 };
+    uint16_t signals[SHAPE_NODES], gates[WIDEST];
+    struct dice dice = dice_for(seed, transistors);
+    begin(shape, "static CMOS block %zu", transistors);
+    uint16_t ground = ground_rail(shape), power = power_rail(shape);
+    size_t count = 0;
+    signals[count++] = changed_input(shape, LOW);
+    while (count < INPUTS)
+        signals[count++] = input(shape, (uint8_t)dice_below(&dice, 2));
+    while (shape->transistors + 2 <= transistors) {
+        size_t most = (transistors - shape->transistors) / 2;
+        size_t width = 1 + dice_below(&dice, (uint32_t)(most < WIDEST ? most : WIDEST));
+        for (size_t k = 0; k < width; k++)
+            gates[k] = signals[dice_below(&dice, (uint32_t)count)];
+        uint16_t out = node(shape, NORMAL);
+        if (dice_below(&dice, 2) == 0)
+            cmos_gate(shape, N_TYPE, ground, power, gates, width, out);
+        else
+            cmos_gate(shape, P_TYPE, power, ground, gates, width, out);
+        signals[count++] = out;
+    }
+}
+
 /* One of the kinds at random, an input or a rail in one case of twenty. */
 static void random_node(struct shape *shape, struct dice *dice)
 {
@@ -261,5 +295,42 @@ void shape_random(struct shape *shape, size_t nodes, size_t transistors, uint64_
             gate = (uint16_t)dice_below(&dice, count);
         uint16_t source = (uint16_t)dice_below(&dice, count);
         transistor(shape, type, gate, source, (uint16_t)dice_below(&dice, count));
+    }
+}
+
+/* ---- another order ---- */
+
+/* The numbers below `count` in a random order. */
+static void shuffle(uint16_t *numbers, size_t count, struct dice *dice)
+{
+    for (size_t i = 0; i < count; i++) {
+        size_t j = dice_below(dice, (uint32_t)i + 1);
+        numbers[i] = numbers[j];
+        numbers[j] = (uint16_t)i;
+    }
+}
+
+void shape_shuffle(struct shape *shape, uint64_t seed)
+{
+    static struct shape drawn;
+    static uint16_t place[SHAPE_NODES], order[SHAPE_TRANSISTORS];
+    struct dice dice = dice_for(seed, shape->nodes);
+    drawn = *shape;
+    shuffle(place, drawn.nodes, &dice);
+    shuffle(order, drawn.transistors, &dice);
+    snprintf(shape->name, sizeof shape->name, "%.36s, shuffled", drawn.name);
+    shape->changed = place[drawn.changed];
+    for (size_t v = 0; v < drawn.nodes; v++) {
+        shape->kinds[place[v]] = drawn.kinds[v];
+        shape->states[place[v]] = drawn.states[v];
+    }
+    for (size_t i = 0; i < drawn.transistors; i++) {
+        size_t from = order[i];
+        uint16_t source = place[drawn.sources[from]], drain = place[drawn.drains[from]];
+        bool over = dice_below(&dice, 2) == 1;
+        shape->types[i] = drawn.types[from];
+        shape->gates[i] = place[drawn.gates[from]];
+        shape->sources[i] = over ? drain : source;
+        shape->drains[i] = over ? source : drain;
     }
 }

@@ -21,12 +21,17 @@ struct shape {
 };
 
 void shape_inverter_chain(struct shape *shape, size_t inverters);
-void shape_pass_chain(struct shape *shape, size_t nodes, uint64_t seed);
+void shape_pass_chain(struct shape *shape, size_t nodes);
 void shape_shift_register(struct shape *shape, size_t stages);
 void shape_nor_decoder(struct shape *shape, size_t bits);
 void shape_pass_tree(struct shape *shape, size_t bits);
 void shape_row_decoder(struct shape *shape, size_t rows, size_t rested);
 void shape_adder(struct shape *shape, size_t bits);
+void shape_cmos_block(struct shape *shape, size_t transistors, uint64_t seed);
 void shape_random(struct shape *shape, size_t nodes, size_t transistors, uint64_t seed);
+
+/* The same network listed in another order: nodes and transistors are numbered
+   anew, and sources and drains change over at random. */
+void shape_shuffle(struct shape *shape, uint64_t seed);
 
 #endif

@@ -599,12 +599,13 @@ void twistdory_node_names(const uint8_t *text, size_t text_length,
 /*
    11  COSTS
 
-   Every call ends, whatever it is lent. A step fills at most three tables of
-   one cell a node, each by sweeps over all transistors until a sweep alters
-   nothing. Few sweeps are usual; a long chain of pass transistors listed from
-   its far end takes about one sweep a node. A unit run evaluates at most one
-   step more than its limit, a ternary run at most two more than twice the
-   number of nodes that are not inputs, and one for its start.
+   Every call ends, whatever it is lent. A step takes time in proportion to
+   nodes and transistors, in whatever order these are listed: it looks at each
+   transistor once, and then at most three times at each of its two ends; each
+   node's cells are looked at a fixed number of times. A step in which no gate
+   is at X takes least. A unit run evaluates at most one step more than its
+   limit, a ternary run at most two more than twice the number of nodes that
+   are not inputs, and one for its start.
 
    A text is read in one pass. Names are found by a hash table, so that each is
    compared with few others. At worst, where names were chosen to collide, a

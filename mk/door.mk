@@ -8,6 +8,7 @@
 #   make faults       planted faults, each of which the outside check must catch
 #   make outside-self the outside check checked: against a stand-in for the library
 #   make bench        the library beside a plain C simulator, on real shapes, and a plain C reader of texts
+#   make beside       this library beside an earlier one, on the same shapes; BEFORE names its archive
 #
 # LIBRARY names the archive in build/ that is checked. The stand-in is one: LIBRARY=libstandin.
 
@@ -26,7 +27,7 @@ DOOR_HEADERS = $(wildcard include/*.h compare/*.h outside/*.h) outside/texts/tex
 DOOR_CC = cc=$$(sh mk/toolchain.sh cc)
 DOOR_RUN = run=$$(sh mk/toolchain.sh run)
 
-.PHONY: lib examples outside soak faults outside-self bench
+.PHONY: lib examples outside soak faults outside-self bench beside
 .PRECIOUS: build/%.o
 
 # ---- the library
@@ -127,3 +128,10 @@ bench: build/$(LIBRARY)/bench build/verilog-writer
 	echo "plain C compiled by $$($$cc --version | head -1) at -O3; library: build/$(LIBRARY).a" && \
 	$$run build/$(LIBRARY)/bench --seed $(SEED) $${run:+--emulated}
 	@sh perf/verilog.sh build/verilog-writer
+
+build/before.a: $(BEFORE)
+	@[ -n "$(BEFORE)" ] || { echo 'make beside BEFORE=archive: which library to compare with'; exit 2; }
+	@cp $(BEFORE) $@
+
+beside: build/before/bench build/$(LIBRARY)/bench
+	@sh perf/beside.sh $^

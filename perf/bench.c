@@ -1,16 +1,20 @@
 /*
-   The benchmark: the library beside a plain C simulator by Bryant's linear
-   method (compare/plain.c), on real shapes (compare/shapes.c), in one run. For
-   each shape: the time of one step, of an input change by a unit run and by a
-   ternary run, and the ratio; a reset; then how a step's cost grows with the
-   network. Then reading a text (compare/texts.c), beside a plain C reader with a
+   The benchmark: the library beside a strong plain C simulator (compare/plain.c),
+   on real shapes (compare/shapes.c), each as drawn and listed in a shuffled
+   order, in one run. For each: the time of one step, of an input change by a unit
+   run and by a ternary run, and the ratio; a reset; then how a step's cost grows
+   with the network. Then reading a text (compare/texts.c), beside a plain C reader with a
    hash table (compare/hashed.c). What the two answer is compared: they must agree.
 
-       bench [--seed S] [--emulated]
+       bench [--seed S] [--emulated] [--shapes]
 
-   Times are the best of several repeats. The library's time includes its checks
-   of everything lent and the clearing of the work area; the plain simulator
-   trusts its tables and lists each node's neighbours once, outside the times.
+   With --shapes the first table alone is made.
+
+   Times are the best of several repeats, taken in turn. The library's time
+   includes its checks of everything lent and the clearing of the work area; the
+   plain simulator trusts its tables and lists each node's ways once, outside the
+   times: what that takes is told beside them. A library that is handed tables at
+   each call and keeps nothing makes its lists in every step.
    The plain reader refuses what the library does, but fills the tables as it goes.
 */
 #define _POSIX_C_SOURCE 200809L
@@ -150,7 +154,7 @@ static struct repeats first_repeat(void)
 
 static bool once_more(const struct repeats *repeats)
 {
-    return repeats->count < 1000 && now() - repeats->began < (repeats->count < 3 ? 2 : 0.2);
+    return repeats->count < 1000 && now() - repeats->began < (repeats->count < 3 ? 2 : 0.3);
 }
 
 static void repeated(struct repeats *repeats, double taken)
@@ -159,18 +163,14 @@ static void repeated(struct repeats *repeats, double taken)
     repeats->count++;
 }
 
-/* Seconds for one call from the states of `start`; `result` is what it gives. */
+/* Seconds of one call from the states of `start`; `result` is what it gives. */
 static double seconds(simulate *call, const struct result *start, const struct change *change,
                       struct result *result)
 {
-    struct repeats repeats = first_repeat();
-    while (once_more(&repeats)) {
-        *result = *start;
-        double before = now();
-        call(result, change);
-        repeated(&repeats, now() - before);
-    }
-    return repeats.best;
+    *result = *start;
+    double before = now();
+    call(result, change);
+    return now() - before;
 }
 
 struct times {
@@ -178,13 +178,19 @@ struct times {
     struct result result;
 };
 
+/* The best of both, called in turn. */
 static struct times measure(simulate *library, simulate *other, const struct result *start,
                             const struct change *change)
 {
     static struct result from_plain;
     struct times times;
-    times.library = seconds(library, start, change, &times.result);
-    times.plain = seconds(other, start, change, &from_plain);
+    struct repeats of_library = first_repeat(), of_plain = first_repeat();
+    while (once_more(&of_library)) {
+        repeated(&of_library, seconds(library, start, change, &times.result));
+        repeated(&of_plain, seconds(other, start, change, &from_plain));
+    }
+    times.library = of_library.best;
+    times.plain = of_plain.best;
     if (memcmp(times.result.states, from_plain.states, shape.nodes) != 0
         || times.result.answer != from_plain.answer
         || memcmp(times.result.counts, from_plain.counts, sizeof from_plain.counts) != 0) {
@@ -194,15 +200,25 @@ static struct times measure(simulate *library, simulate *other, const struct res
     return times;
 }
 
-/* Opens the shape for the plain simulator and settles it with its inputs in place. */
-static void open_shape(struct result *settled)
+/* Opens the shape for the plain simulator and settles it with its inputs in place.
+   Returns the seconds that the lists take. */
+static double open_shape(struct result *settled)
 {
     struct plain_network network = {shape.nodes, shape.transistors, shape.kinds, shape.types,
                                     shape.gates, shape.sources, shape.drains};
     struct plain_changes nothing = {0, NULL, NULL};
-    plain = plain_open(&network);
+    struct repeats repeats = first_repeat();
+    plain = NULL;
+    while (repeats.count < 20) {
+        if (plain != NULL)
+            plain_close(plain);
+        double before = now();
+        plain = plain_open(&network);
+        repeated(&repeats, now() - before);
+    }
     memcpy(settled->states, shape.states, shape.nodes);
     plain_unit_run(plain, settled->states, &nothing, LIMIT, &settled->counts[0]);
+    return repeats.best;
 }
 
 static struct change change_of(uint16_t node)
@@ -244,14 +260,14 @@ static void print_steps(const struct result *result, bool ternary)
 
 static void print_times(const struct times *times, double unit)
 {
-    printf(" %9.3f %9.4f %7.1f", times->library * unit, times->plain * unit,
+    printf(" %9.4f %9.4f %7.2f", times->library * unit, times->plain * unit,
            times->library / times->plain);
 }
 
 static void bench_shape(bool choose)
 {
     static struct result settled;
-    open_shape(&settled);
+    double lists = open_shape(&settled);
     if (choose)
         choose_changed(&settled);
     struct change change = change_of(shape.changed);
@@ -259,7 +275,7 @@ static void bench_shape(bool choose)
     struct times step = measure(library_step, plain_one_step, &settled, &change);
     struct times unit = measure(library_unit, plain_unit, &settled, &change);
     struct times ternary = measure(library_ternary, plain_ternary, &settled, &change);
-    printf("%-28s %5zu %5zu |", shape.name, shape.nodes, shape.transistors);
+    printf("%-37s %5zu %5zu | %7.4f |", shape.name, shape.nodes, shape.transistors, lists * 1e3);
     print_times(&step, 1e3);
     printf(" |");
     print_steps(&unit.result, false);
@@ -272,28 +288,39 @@ static void bench_shape(bool choose)
     plain_close(plain);
 }
 
+/* The shape as drawn, and listed in a shuffled order. */
+static void bench_both(bool choose, uint64_t seed)
+{
+    bench_shape(choose);
+    shape_shuffle(&shape, seed);
+    bench_shape(choose);
+}
+
 static void bench_shapes(uint64_t seed)
 {
-    printf("\nMilliseconds: one step; an input change by a unit run; the same by a ternary run.\n");
-    printf("%-28s %5s %5s | %9s %9s %7s | %11s %9s %9s %7s | %11s %9s %9s %7s\n", "shape", "nodes",
-           "trans", "step: lib", "plain C", "ratio", "unit: steps", "lib", "plain C", "ratio",
-           "tern: steps", "lib", "plain C", "ratio");
+    printf("\nMilliseconds: the lists of plain C, made once; one step; an input change by a unit run; "
+           "the same by a ternary run.\n");
+    printf("%-37s %5s %5s | %7s | %9s %9s %7s | %11s %9s %9s %7s | %11s %9s %9s %7s\n", "shape",
+           "nodes", "trans", "lists", "step: lib", "plain C", "ratio", "unit: steps", "lib",
+           "plain C", "ratio", "tern: steps", "lib", "plain C", "ratio");
     shape_inverter_chain(&shape, 300);
-    bench_shape(false);
+    bench_both(false, seed);
     shape_shift_register(&shape, 1000);
-    bench_shape(false);
+    bench_both(false, seed);
     shape_nor_decoder(&shape, 8);
-    bench_shape(false);
+    bench_both(false, seed);
     shape_pass_tree(&shape, 10);
-    bench_shape(false);
+    bench_both(false, seed);
     shape_row_decoder(&shape, 920, 518);
-    bench_shape(false);
+    bench_both(false, seed);
     shape_adder(&shape, 128);
-    bench_shape(false);
+    bench_both(false, seed);
+    shape_cmos_block(&shape, 5106, seed);
+    bench_both(false, seed);
     shape_random(&shape, 1000, 2000, seed);
-    bench_shape(true);
+    bench_both(true, seed);
     shape_random(&shape, 4000, 8000, seed);
-    bench_shape(true);
+    bench_both(true, seed);
 }
 
 static void bench_reset(uint64_t seed)
@@ -319,7 +346,8 @@ static void inverters_of(size_t nodes, uint64_t seed)
 
 static void passes_of(size_t nodes, uint64_t seed)
 {
-    shape_pass_chain(&shape, nodes, seed);
+    (void)seed;
+    shape_pass_chain(&shape, nodes);
 }
 
 static void rows_of(size_t nodes, uint64_t seed)
@@ -328,49 +356,61 @@ static void rows_of(size_t nodes, uint64_t seed)
     shape_row_decoder(&shape, (nodes - 63) / 4, 0); /* 63 nodes beside the rows */
 }
 
+static void blocks_of(size_t nodes, uint64_t seed)
+{
+    shape_cmos_block(&shape, 2 * (nodes - 34), seed); /* 34 nodes beside the gates */
+}
+
 static void random_of(size_t nodes, uint64_t seed)
 {
     shape_random(&shape, nodes, 2 * nodes, seed);
 }
 
+struct growth {
+    const char *name;
+    void (*make)(size_t nodes, uint64_t seed);
+};
+
+static void grow(const struct growth *growth, bool shuffled, uint64_t seed)
+{
+    static const size_t sizes[] = {500, 1000, 2000, 4000};
+    double first[2] = {0, 0}, last[2] = {0, 0};
+    printf("%-28s %-9s |", growth->name, shuffled ? "shuffled" : "as drawn");
+    for (int k = 0; k < 4; k++) {
+        static struct result settled;
+        growth->make(sizes[k], seed);
+        if (shuffled)
+            shape_shuffle(&shape, seed);
+        open_shape(&settled);
+        if (growth->make == random_of)
+            choose_changed(&settled);
+        struct change change = change_of(shape.changed);
+        struct times times = measure(library_ternary, plain_ternary, &settled, &change);
+        /* three steps more are evaluated: one at the start, one at each half's end */
+        double steps = times.result.counts[0] + times.result.counts[1] + 3.0;
+        last[0] = times.library / steps;
+        last[1] = times.plain / steps;
+        if (k == 0)
+            memcpy(first, last, sizeof first);
+        printf(" %7.4f %7.4f %5.2f |", last[0] * 1e3, last[1] * 1e3, last[0] / last[1]);
+        fflush(stdout);
+        plain_close(plain);
+    }
+    printf(" %5.1f | %5.1f\n", last[0] / first[0], last[1] / first[1]);
+}
+
 static void bench_growth(uint64_t seed)
 {
-    static const struct {
-        const char *name;
-        void (*make)(size_t nodes, uint64_t seed);
-    } kinds[] = {{"inverter chain", inverters_of},
-                 {"pass chain, shuffled", passes_of},
-                 {"row decoder", rows_of},
-                 {"random, 2 transistors a node", random_of}};
-    static const size_t sizes[] = {500, 1000, 2000, 4000};
-
-    printf("\nGrowth: milliseconds a step, averaged over an input change by a ternary run.\n");
-    printf("%-28s |", "nodes");
-    for (int k = 0; k < 4; k++)
-        printf(" %8zu lib %7s ratio |", sizes[k], "plain C");
-    printf(" lib 4000/500 | plain 4000/500\n");
-    for (size_t kind = 0; kind < sizeof kinds / sizeof *kinds; kind++) {
-        double first[2] = {0, 0}, last[2] = {0, 0};
-        printf("%-28s |", kinds[kind].name);
-        for (int k = 0; k < 4; k++) {
-            static struct result settled;
-            kinds[kind].make(sizes[k], seed);
-            open_shape(&settled);
-            if (kinds[kind].make == random_of)
-                choose_changed(&settled);
-            struct change change = change_of(shape.changed);
-            struct times times = measure(library_ternary, plain_ternary, &settled, &change);
-            /* three steps more are evaluated: one at the start, one at each half's end */
-            double steps = times.result.counts[0] + times.result.counts[1] + 3.0;
-            last[0] = times.library / steps;
-            last[1] = times.plain / steps;
-            if (k == 0)
-                memcpy(first, last, sizeof first);
-            printf(" %12.4f %7.4f %5.1f |", last[0] * 1e3, last[1] * 1e3, last[0] / last[1]);
-            fflush(stdout);
-            plain_close(plain);
-        }
-        printf(" %12.1f | %14.1f\n", last[0] / first[0], last[1] / first[1]);
+    static const struct growth growths[] = {{"inverter chain", inverters_of},
+                                            {"pass chain", passes_of},
+                                            {"row decoder", rows_of},
+                                            {"static CMOS block", blocks_of},
+                                            {"random, 2 transistors a node", random_of}};
+    printf("\nGrowth: milliseconds a step, averaged over an input change by a ternary run, at 500, 1000, "
+           "2000 and 4000 nodes: library, plain C, ratio;\nand 4000 against 500: library | plain C.\n");
+    for (size_t k = 0; k < sizeof growths / sizeof *growths; k++) {
+        grow(&growths[k], false, seed);
+        grow(&growths[k], true, seed);
     }
 }
 
@@ -492,9 +532,12 @@ static void bench_texts(uint64_t seed)
 int main(int count, char **words)
 {
     uint64_t seed = 1;
+    bool shapes_alone = false;
     for (int at = 1; at < count; at++) {
         if (strcmp(words[at], "--seed") == 0 && at + 1 < count)
             seed = strtoull(words[++at], NULL, 10);
+        else if (strcmp(words[at], "--shapes") == 0)
+            shapes_alone = true;
         else if (strcmp(words[at], "--emulated") == 0)
             printf("UNDER AN EMULATOR: times mean nothing by themselves, ratios little.\n");
         else {
@@ -504,9 +547,11 @@ int main(int count, char **words)
     }
     double began = now();
     bench_shapes(seed);
-    bench_reset(seed);
-    bench_growth(seed);
-    bench_texts(seed);
+    if (!shapes_alone) {
+        bench_reset(seed);
+        bench_growth(seed);
+        bench_texts(seed);
+    }
     printf("\n%s; %.0f s in all\n",
            all_agree ? "library and plain C agree on every state, count and table read"
                      : "THEY DIFFER",
