@@ -110,18 +110,19 @@ def imports(text):
     if not m:
         return text
     words = {w.strip() for w in m[1].split(",")}
+    start = m.start()
     text = text.replace(m[0], "")
     more = []
     if words & {"lent_net", "net_now", "left_net"}:
         more.append(("Rattle.model.specs.Net", "net_of"))
     if words & {"lent_changes", "changes_now"}:
         more.append(("Rattle.model.specs.Run", "changes_of"))
-    for module, word in more:
+    for module, word in reversed(more):
         line = re.search(r"ghost use " + re.escape(module) + r"\.\{([^}]*)\};", text)
         if line and word not in [w.strip() for w in line[1].split(",")]:
             text = text.replace(line[0], line[0].replace("{", "{" + word + ", ", 1))
         elif not line:
-            text = text[: m.start()] + f"ghost use {module}.{{{word}}};\n" + text[m.start() :]
+            text = text[:start] + f"ghost use {module}.{{{word}}};\n" + text[start:]
     return text
 
 

@@ -17,7 +17,7 @@ const TN: u8 = 0;
 const TD: u8 = 2;
 
 // The tables of a network of up to four nodes and three transistors. Only as many entries as there are nodes or transistors are lent.
-#[derive(Drop)]
+#[derive(Clone, Copy)]
 pub struct Network {
     pub nodes: usize,
     pub kinds: [u8; 4],
@@ -106,7 +106,7 @@ const LATCH: Network = Network {
 };
 
 // The networks by name. A name is cheap to hand on, and a case is then one line of `main`.
-#[derive(Drop)]
+#[derive(Clone, Copy)]
 pub enum Net {
     Inv,
     Pass,
@@ -149,14 +149,14 @@ pub fn started(all: [u8; 256], start: [u8; 4]) -> [u8; 256]
 }
 
 // What is changed before the first step: nodes, each with its new state.
-#[derive(Drop)]
+#[derive(Clone, Copy)]
 pub enum Changes {
     None,
     One(u16, u8),
     Two(u16, u8, u16, u8),
 }
 
-#[derive(Drop)]
+#[derive(Clone, Copy)]
 pub struct ChangeList {
     pub count: usize,
     pub nodes: [u16; 2],
@@ -187,7 +187,7 @@ pub fn list_of(changes: Changes) -> ChangeList
 }
 
 // Large networks by name, of which a program lends as much as it names.
-#[derive(Drop)]
+#[derive(Clone, Copy)]
 pub enum Large {
     // a ring of nodes that are all of one kind but for node 0, ground, by transistors of one type and gate; from transistor 4,096 on each is
     // listed a second time
@@ -197,7 +197,7 @@ pub enum Large {
 }
 
 // Larger than any that is taken.
-#[derive(Drop)]
+#[derive(Clone, Copy)]
 pub struct LargeNetwork {
     pub kinds: [u8; 4097],
     pub types: [u8; 8193],

@@ -15,14 +15,14 @@ use text::{DeviceType, Line, Names};
 pub const WIRE_CELLS: usize = 8193;
 
 // How many nodes and transistors were read.
-#[derive(Drop)]
+#[derive(Clone, Copy)]
 pub struct Counts {
     pub nodes: usize,
     pub transistors: usize,
 }
 
 // A text is taken, or refused at a line.
-#[derive(Drop)]
+#[derive(Clone, Copy)]
 pub enum Read {
     Taken(Counts),
     Refused(usize),

@@ -13,7 +13,7 @@ use model::{Answer, Verdict};
 use sizes::cells_for;
 
 // The answer, and the dump's length.
-#[derive(Drop)]
+#[derive(Clone, Copy)]
 pub struct Dumped {
     pub answer: Answer,
     pub length: usize,

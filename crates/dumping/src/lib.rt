@@ -13,7 +13,7 @@ use model::MOST_NODES;
 use runs::{Ran, limit_of};
 
 // How a run ended, and the place after what was written.
-#[derive(Drop)]
+#[derive(Clone, Copy)]
 pub struct Written {
     pub ran: Ran,
     pub end: usize,

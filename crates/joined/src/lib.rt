@@ -8,7 +8,7 @@ ghost use Rattle.joined.specs.Kept.{Room, Visitable, Fannable, Floodable, Listed
 use branches::TELLING;
 
 // How many nodes are kept, and how many branches were visited.
-#[derive(Drop)]
+#[derive(Clone, Copy)]
 pub struct Parts {
     pub kept: usize,
     pub visits: usize,
@@ -16,7 +16,7 @@ pub struct Parts {
 
 // A flood: where its queue ends, what the nodes in it tell of sources together, whether neither an unsure branch nor an offer touches those that were
 // taken from it, and how many branches were visited.
-#[derive(Drop)]
+#[derive(Clone, Copy)]
 pub struct Found {
     pub tail: usize,
     pub code: u16,

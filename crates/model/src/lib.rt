@@ -40,7 +40,7 @@ pub fn is_input(kind: u8) -> bool
 }
 
 // One of ten kinds, each with its own numbers.
-#[derive(Drop)]
+#[derive(Clone, Copy)]
 pub enum Answer {
     // settled, or done with what was asked: after a step the first node that it changed, or the number of nodes where it changed none,
     // else 0; the counts of a step, a unit run, both halves of a ternary run, the nodes and transistors of a text
@@ -66,7 +66,7 @@ pub enum Answer {
 }
 
 // Whether what is lent is taken, or which refusal it gets.
-#[derive(Drop)]
+#[derive(Clone, Copy)]
 pub enum Verdict {
     Accepted,
     Refused(Answer),

@@ -18,7 +18,7 @@ pub const NODE_CELLS: usize = 4099;
 pub const CHAINS: usize = 4096;
 
 // A name's number, and how many names are known with it.
-#[derive(Drop)]
+#[derive(Clone, Copy)]
 pub struct Numbered {
     pub number: usize,
     pub count: usize,

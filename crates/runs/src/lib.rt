@@ -9,14 +9,14 @@ ghost use Rattle.basis.specs.Sound.{Checked, Named};
 ghost use Rattle.basis.specs.Steps.{rule_one, Stepped, Told, Ended, Halved};
 
 // What a step changed: the first node, or the number of nodes where it changed none; and how many.
-#[derive(Drop)]
+#[derive(Clone, Copy)]
 pub struct Moved {
     pub first: u32,
     pub count: u32,
 }
 
 // How steps ended: settled or not, the first node that the next step would change, and after how many.
-#[derive(Drop)]
+#[derive(Clone, Copy)]
 pub struct Ran {
     pub ends: bool,
     pub place: u32,
@@ -24,7 +24,7 @@ pub struct Ran {
 }
 
 // The steps of the two halves of a ternary run.
-#[derive(Drop)]
+#[derive(Clone, Copy)]
 pub struct Halves {
     pub first: u32,
     pub second: u32,

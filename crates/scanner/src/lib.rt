@@ -8,7 +8,7 @@ use model::MOST_NAME;
 use text::{DeviceType, Line, Names, Opening, Span};
 
 // Where a scan stops: at a line feed, at a blank or a line feed, at a byte that is no blank.
-#[derive(Drop)]
+#[derive(Clone, Copy)]
 pub enum Stop {
     Feed,
     Gap,

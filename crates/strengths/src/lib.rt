@@ -96,7 +96,7 @@ fn follow(
 }
 
 // Where a queue ends, and how many branches were visited.
-#[derive(Drop)]
+#[derive(Clone, Copy)]
 struct Reached {
     tail: usize,
     visits: usize,

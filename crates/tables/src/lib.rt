@@ -1,8 +1,8 @@
 // The first bad place of each table that is lent, or the table's length where there is none.
 ghost use Rattle.std.specs.Prelude.{◌<◌, ◌≡◌, length, eqb, ltb};
 ghost use Rattle.model.specs.Places.{some, any, first, at};
-ghost use Rattle.model.specs.Net.{net_of, ghost use Rattle.model.specs.Run.{changes_of};
-alone};
+ghost use Rattle.model.specs.Net.{net_of, alone};
+ghost use Rattle.model.specs.Run.{changes_of};
 ghost use Rattle.model.specs.Rules.{wire_tests, change_tests};
 ghost use Rattle.basis.specs.Sound.{Level};
 

@@ -2,21 +2,21 @@
 // network that they add up to, and of what reading answers and leaves are in specs/; what is proved of them is the crate textlaws.
 
 // A part of the text: where it starts, and how many bytes it has.
-#[derive(Drop)]
+#[derive(Clone, Copy)]
 pub struct Span {
     pub start: usize,
     pub size: usize,
 }
 
 // A device's three names.
-#[derive(Drop)]
+#[derive(Clone, Copy)]
 pub struct Names {
     pub gate: Span,
     pub source: Span,
     pub drain: Span,
 }
 
-#[derive(Drop)]
+#[derive(Clone, Copy)]
 pub enum DeviceType {
     N,
     P,
@@ -24,7 +24,7 @@ pub enum DeviceType {
 }
 
 // A line of the text: a device, a line to skip, or one that is neither and is refused.
-#[derive(Drop)]
+#[derive(Clone, Copy)]
 pub enum Line {
     Device(DeviceType, Names),
     Skip,
@@ -32,7 +32,7 @@ pub enum Line {
 }
 
 // What a line's first field says of it.
-#[derive(Drop)]
+#[derive(Clone, Copy)]
 pub enum Opening {
     Of(DeviceType),
     Skipped,

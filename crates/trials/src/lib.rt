@@ -2,7 +2,7 @@
 use model::Answer;
 
 // The library's entries.
-#[derive(Drop)]
+#[derive(Clone, Copy)]
 pub enum Entry {
     Check,
     Reset,

@@ -1,0 +1,19 @@
+-- `cells::differing` meets its contract: it has counted the nodes passed. Assumes nothing.
+use Prim.Native.Nat.{◌-◌, ◌≤◌}
+use native.Mathlib.Nat.{le_antisymm}
+use native.Mathlib.Omega.{arith}
+use mathlib.Core.Path.{◌≡◌, refl}
+use lib.ListN.{length}
+use borrow.Author.Rules.{rules}
+use Rattle.model.specs.Places.{count}
+use Rattle.model.specs.Run.{changed}
+use Rattle.basis.proofs.Altered.{one_few, count_few, count_more, count_end}
+use Rattle.cells.proofs.differing.Given as goal
+
+abbrev pub invariant-loop-node : goal.invariant-loop-node
+invariant-loop-node l =
+    (l.node ≤ length l.states) × (l.k ≡ count l.node (changed l.states l.work))
+
+abbrev pub decreases-loop-node : goal.decreases-loop-node
+decreases-loop-node l =
+    length l.states - l.node

@@ -1,0 +1,16 @@
+-- `cells::enter` meets its contract: the changes passed are entered. Assumes nothing.
+use Prim.Native.Nat.{◌-◌, ◌≤◌}
+use native.Mathlib.Omega.{arith}
+use mathlib.Core.Path.{◌≡◌, refl, ◌∙◌}
+use lib.ListN.{length, length-set}
+use borrow.Author.Rules.{rules}
+use Rattle.basis.proofs.Entering.{entering, entering_more, entering_all}
+use Rattle.cells.proofs.enter.Given as goal
+
+abbrev pub invariant-loop-e : goal.invariant-loop-e
+invariant-loop-e l =
+    (l.e ≤ length l.nodes) × (length l.states ≡ length l.initial.states) × (l.states ≡ entering l.initial.states l.nodes l.news l.e)
+
+abbrev pub decreases-loop-e : goal.decreases-loop-e
+decreases-loop-e l =
+    length l.nodes - l.e
