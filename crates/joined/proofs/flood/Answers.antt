@@ -1,0 +1,57 @@
+-- `joined::flood` meets its contract: the nodes passed in the queue are done with. Assumes nothing.
+use Prim.Native.Nat.{◌+◌, ◌*◌, ◌-◌}
+use native.Mathlib.Omega.{arith}
+use mathlib.Core.Path.{◌≡◌, refl}
+use lib.ListN.{length}
+use borrow.Author.Rules.{rules}
+use Rattle.joined.specs.Floods.{Emptied, begins, takes, flooded}
+use Rattle.joined.proofs.Flooding.{flood_room, flood_inside, flood_few, flood_fannable}
+use Rattle.joined.proofs.flood.Goals as goal
+
+pub reach-found-requires : goal.reach-found-requires
+reach-found-requires c = (flood_room c.requires, flood_inside c.requires)
+
+pub loop-k-init : goal.loop-k-init
+loop-k-init c = (refl, begins)
+
+pub overflow_add-a : goal.overflow_add-a
+overflow_add-a c =
+    let start = c in
+    let turn = c.loop-k in
+    let few = flood_few start.requires c.reach-found.ensures turn.invariant.1 in
+    omega arith
+
+pub offset_bounds-work-n : goal.offset_bounds-work-n
+offset_bounds-work-n c =
+    let start = c in
+    let turn = c.loop-k in
+    let few = flood_few start.requires c.reach-found.ensures turn.invariant.1 in
+    omega arith
+
+pub bounds-work-n : goal.bounds-work-n
+bounds-work-n c =
+    let start = c in
+    let turn = c.loop-k in
+    let few = flood_few start.requires c.reach-found.ensures turn.invariant.1 in
+    omega (arith, c.loop-k-test.true)
+
+pub fan-found-requires : goal.fan-found-requires
+fan-found-requires c =
+    let start = c in
+    flood_fannable start.requires c.reach-found.ensures c.loop-k.invariant.1 c.loop-k-test.true
+
+pub loop-k-smaller : goal.loop-k-smaller
+loop-k-smaller c =
+    let start = c in
+    let turn = c.loop-k in
+    let few = flood_few start.requires c.reach-found.ensures turn.invariant.1 in
+    omega (arith, c.loop-k-test.true)
+
+pub loop-k-preserved : goal.loop-k-preserved
+loop-k-preserved c =
+    let turn = c.loop-k in
+    (omega (arith, c.fan-found.auto, turn.invariant.0), takes turn.invariant.1 c.loop-k-test.true c.fan-found.ensures)
+
+pub returns : goal.returns
+returns c = flooded c.reach-found.ensures c.loop-k.invariant.1 c.loop-k-test.false
+

@@ -1,0 +1,41 @@
+-- `strengths::empty` meets its contract: the nodes that were taken from the queue have nothing more to give. Assumes nothing.
+use Prim.Native.Nat.{◌-◌}
+use native.Mathlib.Omega.{arith}
+use mathlib.Core.Path.{◌≡◌, refl}
+use lib.ListN.{length}
+use mir.Facts.{Fits-16_64}
+use Rattle.branches.specs.Branch.{wires_by}
+use Rattle.strengths.specs.Level.{Waiting}
+use Rattle.strengths.proofs.Levels.{Emptying, empty_start, empty_few, empty_fannable, empty_visits, empty_next, empty_end}
+use Rattle.strengths.proofs.empty.Goals as goal
+
+pub loop-k-init : goal.loop-k-init
+loop-k-init c = (refl, λ z. empty_start)
+
+pub overflow_add-a : goal.overflow_add-a
+overflow_add-a c = omega (arith, c.loop-k-test.true, empty_few c.requires.0 (c.loop-k.invariant.1 c.requires.0), c.requires.0.held.fits, c.requires.0.held.laid.few_nodes)
+
+pub offset_bounds-work-queue : goal.offset_bounds-work-queue
+offset_bounds-work-queue c = omega (arith, c.loop-k-test.true, empty_few c.requires.0 (c.loop-k.invariant.1 c.requires.0), c.requires.0.held.fits, c.requires.0.held.laid.few_nodes)
+
+pub bounds-work-queue : goal.bounds-work-queue
+bounds-work-queue c = omega (arith, c.loop-k-test.true, empty_few c.requires.0 (c.loop-k.invariant.1 c.requires.0), c.requires.0.held.fits, c.requires.0.held.laid.fits, c.loop-k.invariant.0)
+
+pub fan-r-requires : goal.fan-r-requires
+fan-r-requires c = (empty_fannable c.requires.0 (c.loop-k.invariant.1 c.requires.0) c.loop-k-test.true, c.requires.1)
+
+pub overflow_add-visits : goal.overflow_add-visits
+overflow_add-visits c = omega (arith, empty_visits c.requires.0 (empty_next c.requires.0 (c.loop-k.invariant.1 c.requires.0) c.loop-k-test.true (c.fan-r.ensures (empty_fannable c.requires.0 (c.loop-k.invariant.1 c.requires.0) c.loop-k-test.true))), c.requires.0.held.laid.few_transistors)
+
+pub overflow_add-k : goal.overflow_add-k
+overflow_add-k c = omega (arith, c.loop-k-test.true, empty_few c.requires.0 (c.loop-k.invariant.1 c.requires.0), c.requires.0.held.fits, c.requires.0.held.laid.few_nodes)
+
+pub loop-k-smaller : goal.loop-k-smaller
+loop-k-smaller c = omega (arith, c.loop-k-test.true, empty_few c.requires.0 (c.loop-k.invariant.1 c.requires.0), c.requires.0.held.fits, c.requires.0.held.behind, c.requires.0.held.laid.few_nodes)
+
+pub loop-k-preserved : goal.loop-k-preserved
+loop-k-preserved c = (omega (arith, c.fan-r.auto, c.loop-k.invariant.0), λ z. empty_next z (c.loop-k.invariant.1 z) c.loop-k-test.true (c.fan-r.ensures (empty_fannable z (c.loop-k.invariant.1 z) c.loop-k-test.true)))
+
+pub returns : goal.returns
+returns c = λ z. empty_end z (c.loop-k.invariant.1 z) c.loop-k-test.false
+
