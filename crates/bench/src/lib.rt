@@ -1,5 +1,7 @@
 // Networks for the programs, by name, as tables by value whose fronts are lent: the bench set, with lists of up to two changes, and two networks
 // that are larger than any that is taken.
+#![tactic(auto)]
+
 ghost use Rattle.std.specs.Prelude.{◌≤◌, ◌≡◌, length};
 
 // Kinds of nodes: plain, with a pullup, input, ground.

@@ -1,9 +1,12 @@
 // Both sides of each bound, through the library's entries. A line a call: the entry and what is lent, in numbers, as the title above it says,
 // then answer, place, first count and second count. First the lengths, at full size, then what the tables hold, then the default limit.
+#![tactic(auto)]
+
 ghost use Rattle.std.specs.Prelude.{◌≤◌};
 
 use bench::Large;
 use model::Answer;
+use std::io;
 use trials::Entry;
 
 // Kinds of nodes: plain, with a pullup, input, ground, power.
@@ -63,7 +66,17 @@ fn lend(
 }
 
 // A line of lengths, of a ring of closed transistors at 0, with changes to 1.
-fn lengths(entry: Entry, kind: u8, n: usize, s: usize, m: usize, e: usize, c: usize, cells: usize)
+fn lengths(
+    rt: &impl Print,
+    entry: Entry,
+    kind: u8,
+    n: usize,
+    s: usize,
+    m: usize,
+    e: usize,
+    c: usize,
+    cells: usize,
+) -> io::Result<()>
     requires { (n ≤ 4097) × (s ≤ 4097) × (m ≤ 8193) × (e ≤ 8193) × (c ≤ 4097) × (cells ≤ 32769) }
 {
     let net = Large::Ring {
@@ -73,12 +86,22 @@ fn lengths(entry: Entry, kind: u8, n: usize, s: usize, m: usize, e: usize, c: us
     };
     let answer = lend(entry, net, 0, 1, 0, n, s, m, e, c, cells);
     let lent = [kind as usize, n, s, m, e, c, cells];
-    trials::show_entry(entry);
-    lines::show_row(&lent, answer);
+    trials::show_entry(rt, entry)?;
+    lines::show_row(rt, &lent, answer)
 }
 
 // A line of contents, of three nodes and one transistor.
-fn contents(entry: Entry, kind: u8, ty: u8, gate: u16, state: u8, c: usize, new: u8, limit: u32)
+fn contents(
+    rt: &impl Print,
+    entry: Entry,
+    kind: u8,
+    ty: u8,
+    gate: u16,
+    state: u8,
+    c: usize,
+    new: u8,
+    limit: u32,
+) -> io::Result<()>
     requires { c ≤ 4097 }
 {
     let net = Large::Ring { kind, ty, gate };
@@ -92,12 +115,12 @@ fn contents(entry: Entry, kind: u8, ty: u8, gate: u16, state: u8, c: usize, new:
         new as usize,
         limit as usize,
     ];
-    trials::show_entry(entry);
-    lines::show_row(&lent, answer);
+    trials::show_entry(rt, entry)?;
+    lines::show_row(rt, &lent, answer)
 }
 
 // A line of a unit run of inverters in a row, from 0 everywhere: the inverter at stage k has its last state after k steps and not before.
-fn inverters(stages: usize, limit: u32)
+fn inverters(rt: &impl Print, stages: usize, limit: u32) -> io::Result<()>
     requires { stages ≤ 1001 }
 {
     let nodes = stages + 2;
@@ -116,103 +139,97 @@ fn inverters(stages: usize, limit: u32)
         cells,
     );
     let lent = [stages, limit as usize];
-    trials::show_entry(Entry::Unit);
-    lines::show_row(&lent, answer);
+    trials::show_entry(rt, Entry::Unit)?;
+    lines::show_row(rt, &lent, answer)
 }
 
 // 0 nodes are too few, 4,097 too many; 8,193 transistors are too many; the tables of transistors have one length, kinds and states another.
-fn lengths_of_tables() {
-    lengths(Entry::Check, N, 0, 0, 0, 0, 0, 0);
-    lengths(Entry::Check, N, 1, 0, 0, 0, 0, 0);
-    lengths(Entry::Check, N, 4096, 0, 8192, 8192, 0, 0);
-    lengths(Entry::Check, N, 4097, 0, 0, 0, 0, 0);
-    lengths(Entry::Check, N, 4096, 0, 8193, 8193, 0, 0);
-    lengths(Entry::Check, N, 4096, 0, 8193, 8192, 0, 0);
-    lengths(Entry::Reset, N, 4096, 4096, 0, 0, 0, 0);
-    lengths(Entry::Reset, N, 4097, 4097, 0, 0, 0, 0);
-    lengths(Entry::Reset, N, 4097, 4096, 0, 0, 0, 0);
+fn lengths_of_tables(rt: &impl Print) -> io::Result<()> {
+    lengths(rt, Entry::Check, N, 0, 0, 0, 0, 0, 0)?;
+    lengths(rt, Entry::Check, N, 1, 0, 0, 0, 0, 0)?;
+    lengths(rt, Entry::Check, N, 4096, 0, 8192, 8192, 0, 0)?;
+    lengths(rt, Entry::Check, N, 4097, 0, 0, 0, 0, 0)?;
+    lengths(rt, Entry::Check, N, 4096, 0, 8193, 8193, 0, 0)?;
+    lengths(rt, Entry::Check, N, 4096, 0, 8193, 8192, 0, 0)?;
+    lengths(rt, Entry::Reset, N, 4096, 4096, 0, 0, 0, 0)?;
+    lengths(rt, Entry::Reset, N, 4097, 4097, 0, 0, 0, 0)?;
+    lengths(rt, Entry::Reset, N, 4097, 4096, 0, 0, 0, 0)
 }
 
 // A step and the runs at full size need 32,768 work cells, and so do 4,096 changes of as many inputs; 4,097 changes are too many. Inputs alone, and
 // rails alone, settle with no step.
-fn lengths_of_runs() {
-    lengths(Entry::Step, N, 4096, 4096, 8192, 8192, 0, 32767);
-    lengths(Entry::Step, N, 4096, 4096, 8192, 8192, 0, 32768);
-    lengths(Entry::Unit, N, 4096, 4096, 8192, 8192, 1, 32768);
-    lengths(Entry::Ternary, N, 4096, 4096, 8192, 8192, 1, 32769);
-    lengths(Entry::Unit, I, 4096, 4096, 8192, 8192, 4096, 32768);
-    lengths(Entry::Unit, I, 4096, 4096, 8192, 8192, 4097, 32768);
-    lengths(Entry::Unit, G, 4096, 4096, 8192, 8192, 0, 32768);
-    lengths(Entry::Unit, V, 4096, 4096, 8192, 8192, 4096, 32768);
-    lengths(Entry::Step, N, 3, 3, 1, 1, 0, 13);
-    lengths(Entry::Step, N, 3, 3, 1, 1, 0, 14);
+fn lengths_of_runs(rt: &impl Print) -> io::Result<()> {
+    lengths(rt, Entry::Step, N, 4096, 4096, 8192, 8192, 0, 32767)?;
+    lengths(rt, Entry::Step, N, 4096, 4096, 8192, 8192, 0, 32768)?;
+    lengths(rt, Entry::Unit, N, 4096, 4096, 8192, 8192, 1, 32768)?;
+    lengths(rt, Entry::Ternary, N, 4096, 4096, 8192, 8192, 1, 32769)?;
+    lengths(rt, Entry::Unit, I, 4096, 4096, 8192, 8192, 4096, 32768)?;
+    lengths(rt, Entry::Unit, I, 4096, 4096, 8192, 8192, 4097, 32768)?;
+    lengths(rt, Entry::Unit, G, 4096, 4096, 8192, 8192, 0, 32768)?;
+    lengths(rt, Entry::Unit, V, 4096, 4096, 8192, 8192, 4096, 32768)?;
+    lengths(rt, Entry::Step, N, 3, 3, 1, 1, 0, 13)?;
+    lengths(rt, Entry::Step, N, 3, 3, 1, 1, 0, 14)
 }
 
 // Kinds end at 4, types and states at 2, node numbers below the node count; reset takes any state.
-fn contents_of_tables() {
-    contents(Entry::Check, 4, 0, 0, 0, 0, 0, 0);
-    contents(Entry::Check, 5, 0, 0, 0, 0, 0, 0);
-    contents(Entry::Reset, 4, 0, 0, 0, 0, 0, 0);
-    contents(Entry::Reset, 5, 0, 0, 0, 0, 0, 0);
-    contents(Entry::Check, N, 2, 0, 0, 0, 0, 0);
-    contents(Entry::Check, N, 3, 0, 0, 0, 0, 0);
-    contents(Entry::Check, N, 0, 2, 0, 0, 0, 0);
-    contents(Entry::Check, N, 0, 3, 0, 0, 0, 0);
-    contents(Entry::Check, N, 0, 65535, 0, 0, 0, 0);
-    contents(Entry::Reset, N, 0, 0, 255, 0, 0, 0);
-    contents(Entry::Step, N, 0, 0, 2, 0, 0, 0);
-    contents(Entry::Step, N, 0, 0, 3, 0, 0, 0);
+fn contents_of_tables(rt: &impl Print) -> io::Result<()> {
+    contents(rt, Entry::Check, 4, 0, 0, 0, 0, 0, 0)?;
+    contents(rt, Entry::Check, 5, 0, 0, 0, 0, 0, 0)?;
+    contents(rt, Entry::Reset, 4, 0, 0, 0, 0, 0, 0)?;
+    contents(rt, Entry::Reset, 5, 0, 0, 0, 0, 0, 0)?;
+    contents(rt, Entry::Check, N, 2, 0, 0, 0, 0, 0)?;
+    contents(rt, Entry::Check, N, 3, 0, 0, 0, 0, 0)?;
+    contents(rt, Entry::Check, N, 0, 2, 0, 0, 0, 0)?;
+    contents(rt, Entry::Check, N, 0, 3, 0, 0, 0, 0)?;
+    contents(rt, Entry::Check, N, 0, 65535, 0, 0, 0, 0)?;
+    contents(rt, Entry::Reset, N, 0, 0, 255, 0, 0, 0)?;
+    contents(rt, Entry::Step, N, 0, 0, 2, 0, 0, 0)?;
+    contents(rt, Entry::Step, N, 0, 0, 3, 0, 0, 0)
 }
 
 // A step's place is the first node that it changes, and where it changes none the number of nodes: pullups at 0, and at 1.
-fn first_changed() {
-    contents(Entry::Step, P, 0, 0, 0, 0, 0, 0);
-    contents(Entry::Step, P, 0, 0, 1, 0, 0, 0);
+fn first_changed(rt: &impl Print) -> io::Result<()> {
+    contents(rt, Entry::Step, P, 0, 0, 0, 0, 0, 0)?;
+    contents(rt, Entry::Step, P, 0, 0, 1, 0, 0, 0)
 }
 
 // The limit ends at 10,000, and a run may end exactly at its limit. A ternary run needs a settled start: a pullup at 0 is none. Of the changes,
 // the first is of ground, also to the state that it has, the second of no input, the fourth of no node; new states end at 2.
-fn contents_of_runs() {
-    contents(Entry::Unit, P, 0, 0, 0, 0, 0, 10000);
-    contents(Entry::Unit, P, 0, 0, 0, 0, 0, 10001);
-    contents(Entry::Unit, P, 0, 0, 0, 0, 0, 1);
-    contents(Entry::Ternary, P, 0, 0, 0, 0, 0, 0);
-    contents(Entry::Ternary, P, 0, 0, 1, 0, 0, 0);
-    contents(Entry::Unit, N, 0, 0, 0, 1, 0, 1);
-    contents(Entry::Unit, N, 0, 0, 0, 2, 0, 1);
-    contents(Entry::Unit, I, 0, 0, 0, 3, 1, 1);
-    contents(Entry::Unit, V, 0, 0, 0, 3, 1, 1);
-    contents(Entry::Unit, I, 0, 0, 0, 4, 1, 1);
-    contents(Entry::Unit, I, 0, 0, 0, 1, 2, 1);
-    contents(Entry::Unit, I, 0, 0, 0, 1, 3, 1);
+fn contents_of_runs(rt: &impl Print) -> io::Result<()> {
+    contents(rt, Entry::Unit, P, 0, 0, 0, 0, 0, 10000)?;
+    contents(rt, Entry::Unit, P, 0, 0, 0, 0, 0, 10001)?;
+    contents(rt, Entry::Unit, P, 0, 0, 0, 0, 0, 1)?;
+    contents(rt, Entry::Ternary, P, 0, 0, 0, 0, 0, 0)?;
+    contents(rt, Entry::Ternary, P, 0, 0, 1, 0, 0, 0)?;
+    contents(rt, Entry::Unit, N, 0, 0, 0, 1, 0, 1)?;
+    contents(rt, Entry::Unit, N, 0, 0, 0, 2, 0, 1)?;
+    contents(rt, Entry::Unit, I, 0, 0, 0, 3, 1, 1)?;
+    contents(rt, Entry::Unit, V, 0, 0, 0, 3, 1, 1)?;
+    contents(rt, Entry::Unit, I, 0, 0, 0, 4, 1, 1)?;
+    contents(rt, Entry::Unit, I, 0, 0, 0, 1, 2, 1)?;
+    contents(rt, Entry::Unit, I, 0, 0, 0, 1, 3, 1)
 }
 
 // A limit of 0 stands for 1,000 steps, a limit of 100 for 100; a row of as many stages as its limit settles. A longer one is still moving from
 // the stage on that comes next.
-fn default_limit() {
-    inverters(300, 0);
-    inverters(300, 100);
-    inverters(300, 299);
-    inverters(300, 300);
-    inverters(1000, 0);
-    inverters(1001, 0);
-    inverters(1001, 1001);
+fn default_limit(rt: &impl Print) -> io::Result<()> {
+    inverters(rt, 300, 0)?;
+    inverters(rt, 300, 100)?;
+    inverters(rt, 300, 299)?;
+    inverters(rt, 300, 300)?;
+    inverters(rt, 1000, 0)?;
+    inverters(rt, 1001, 0)?;
+    inverters(rt, 1001, 1001)
 }
 
-fn main() {
-    io::write_all(
-        1,
-        b"entry kind nodes states types ends changes cells: answer place count count\n",
-    );
-    lengths_of_tables();
-    lengths_of_runs();
-    io::write_all(
-        1,
-        b"entry kind type gate state changes new limit: answer place count count\n",
-    );
-    contents_of_tables();
-    first_changed();
-    contents_of_runs();
-    io::write_all(1, b"entry stages limit: answer place count count\n");
-    default_limit();
+fn main(rt: HostRuntime) -> io::Result<()> {
+    println!(rt; "entry kind nodes states types ends changes cells: answer place count count")?;
+    lengths_of_tables(&rt)?;
+    lengths_of_runs(&rt)?;
+    println!(rt; "entry kind type gate state changes new limit: answer place count count")?;
+    contents_of_tables(&rt)?;
+    first_changed(&rt)?;
+    contents_of_runs(&rt)?;
+    println!(rt; "entry stages limit: answer place count count")?;
+    default_limit(&rt)
 }

@@ -1,5 +1,8 @@
 // An entry of the library called by its name, with what it takes of the tables: so a program lends its tables in one place.
+#![tactic(auto)]
+
 use model::Answer;
+use std::io;
 
 // The library's entries.
 #[derive(Clone, Copy)]
@@ -38,22 +41,13 @@ pub fn call(
     }
 }
 
-pub fn show_entry(entry: Entry) {
+// Prints an entry's name.
+pub fn show_entry(rt: &impl Print, entry: Entry) -> io::Result<()> {
     match entry {
-        Entry::Check => {
-            io::write_all(1, b"check");
-        }
-        Entry::Reset => {
-            io::write_all(1, b"reset");
-        }
-        Entry::Step => {
-            io::write_all(1, b"step");
-        }
-        Entry::Unit => {
-            io::write_all(1, b"unit");
-        }
-        Entry::Ternary => {
-            io::write_all(1, b"ternary");
-        }
+        Entry::Check => print!(rt; "check"),
+        Entry::Reset => print!(rt; "reset"),
+        Entry::Step => print!(rt; "step"),
+        Entry::Unit => print!(rt; "unit"),
+        Entry::Ternary => print!(rt; "ternary"),
     }
 }
