@@ -27,12 +27,12 @@ returns-then-not-settled c =
     let kept = rest.auto in
     let start = c in
     start_leaves _ _ _ _ _ (omega arith) _ c.cells_for-used.ensures c.clear.ensures _ start.requires
-    (sym rest.ensures.tells ∙ not-true _ c.if-not-settled.true) rest.ensures.spared
+    (sym rest.ensures.tells ∙ c.if-not-settled.true) rest.ensures.spared
 
 pub ternary_core-halves-requires : goal.ternary_core-halves-requires
 ternary_core-halves-requires c =
     let f = ternary_accepted _ _ _ _ c.requires in
-    (checked f.0 _ c.settled.auto.1.1.1.1.1.1.0, f.1.values_level, f.2)
+    (checked f.0 _ c.settled.auto.work, f.1.values_level, f.2)
 
 pub clear-requires-2 : goal.clear-requires-2
 clear-requires-2 c =
@@ -49,5 +49,5 @@ returns c =
     let kept-before = rest.auto in
     let start = c in
     ternary_leaves _ _ _ _ _ (omega arith) _ c.cells_for-used.ensures c.clear-2.ensures _ start.requires
-    (sym rest.ensures.tells ∙ not-false _ c.if-not-settled.false) rest.ensures.spared ran.ensures
+    (sym rest.ensures.tells ∙ c.if-not-settled.false) rest.ensures.spared ran.ensures
 
