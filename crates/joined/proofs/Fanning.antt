@@ -161,7 +161,7 @@ module _ (G : Wires) (w₀ : List ℕ) (v from : ℕ) where
               );
             }
 
-    pub chain_law : {w x : List ℕ} {f g : Found} {e : ℕ} → Chained k a w f (at w (3 * G.size + a)) → Chain G.size G.sources G.drains a w f x g e → Chained k a x g e
+    pub chain_law : {w : List ℕ} {f : Found} {x : List ℕ} {g : Found} {e : ℕ} → Chained k a w f (at w (3 * G.size + a)) → Chain G.size G.sources G.drains a w f x g e → Chained k a x g e
     chain_law z start = z
     chain_law z (next c p s) = (chained_next (chain_law z c) p s).0
 

@@ -52,7 +52,7 @@ module _ (G : Wires) {w : List ℕ} {v : ℕ} (f : Found) (R : Ready G w) (u : U
       z = reached G R spread_none u.0 here r
 
 -- nodes are taken from the queue
-pub emptied_law : (G : Wires) {w₀ w x : List ℕ} {v from k : ℕ} {f g : Found} → Emptying G w₀ v from from w f → Emptied G.size G.sources G.drains from w f x g k → Emptying G w₀ v from k x g
+pub emptied_law : (G : Wires) {w₀ w : List ℕ} {v from : ℕ} {f : Found} {x : List ℕ} {g : Found} {k : ℕ} → Emptying G w₀ v from from w f → Emptied G.size G.sources G.drains from w f x g k → Emptying G w₀ v from k x g
 emptied_law G z begins = z
 emptied_law G z (takes e l s) = fan_law G _ _ _ (emptied_law G z e) l s
 

@@ -31,7 +31,7 @@ joins_by {n} {b} {m} {w} f o e =
     subst (λ (y : ℕ). Reached n b w f (queued n b w f.tail) (record { tail = f.tail + 1; code = y; sure = f.sure; visits = f.visits })) (sym e) (joins o)
 
 -- reaching a node visits no branch
-pub reached_visits : {n b : ℕ} {w x : List ℕ} {f g : Found} → Reached n b w f x g → g.visits ≡ f.visits
+pub reached_visits : {n b : ℕ} {w : List ℕ} {f : Found} {x : List ℕ} {g : Found} → Reached n b w f x g → g.visits ≡ f.visits
 reached_visits (taken t) = refl
 reached_visits (joins o) = refl
 
@@ -150,8 +150,8 @@ module _ (G : Wires) {w₀ : List ℕ} {v from : ℕ} (R : Ready G w₀) where
         whole_go j l i (yes e) = rw (e, new_end, ← same_b) (within_second f.code (at w (G.size + b)))
         whole_go j l i (no e) = rw (old_queue j (omega arith)) (within_trans (z.whole j l (omega arith)) (within_first f.code (at w (G.size + b))))
 
-  pub reached : {b : ℕ} {w x : List ℕ} {f g : Found} → Spread G w₀ v from w f.tail f.code → b < G.size → Joined G v b → Reached G.size b w f x g → Reach G w₀ v from b w f x g
-  reached {b} {w} {x} {f} z bn jb (taken t) = record {
+  pub reached : {b : ℕ} {w : List ℕ} {f : Found} {x : List ℕ} {g : Found} → Spread G w₀ v from w f.tail f.code → b < G.size → Joined G v b → Reached G.size b w f x g → Reach G w₀ v from b w f x g
+  reached {b} {w} {f} {x} z bn jb (taken t) = record {
     spread = z;
     grown = record { more = le_refl _; old = λ j l. refl; level = λ p. refl; sure = λ e. e };
     member = λ o. go o (z.others b bn);

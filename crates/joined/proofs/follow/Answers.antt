@@ -9,5 +9,5 @@ pub returns-then-e-eq1 : goal.returns-then-e-eq1
 returns-then-e-eq1 c = passed c.if-e-eq1.true
 
 pub returns : goal.returns
-returns c = along _ c.if-e-eq1.false c.end_of_lem.ensures c.reach-r.ensures
+returns c = along _ c.if-e-eq1.false c.end_of-b.ensures c.reach-r.ensures
 

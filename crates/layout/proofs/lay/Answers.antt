@@ -18,10 +18,10 @@ turned : (x : Bool) {r : Bool} → r ≡ not x → x ≡ not r
 turned x e = sym (not-not x) ∙ sym (ap not e)
 
 -- one that is not open, by both tests
-next-on : {net : Net} {s w w' : List ℕ} {t : ℕ} {r unsure : Bool} → r ≡ not (choose (stand_at net s t) true) → not r ≡ true → unsure ≡ doubtful net s t
+next-on : {net : Net} {s w w' : List ℕ} {t : ℕ} {r unsure : Bool} → r ≡ not (choose (stand_at net s t) true) → r ≡ false → unsure ≡ doubtful net s t
     → LaidOne net.kinds s (at net.sources t) (at net.drains t) t unsure w w' → LaidNext net s t w w'
 next-on {net} {s} {t = t} e h u y =
-    let o : choose (stand_at net s t) true ≡ true = turned _ e ∙ h in
+    let o : choose (stand_at net s t) true ≡ true = turned _ e ∙ ap not h in
     on _ o (u ∙ ap (λ (x : Bool). x && not (choose (stand_at net s t) false)) o) y
 
 pub returns-then-not-is_open : goal.returns-then-not-is_open

@@ -6,6 +6,7 @@ use mathlib.Core.Logic.{⊎_elim}
 use Rattle.layout.proofs.Telling.{mark_limit}
 use Rattle.layout.proofs.Begun.{source_input, source_pullup, source_normal}
 use Rattle.layout.proofs.source_at.Goals as goal
+use Rattle.layout.proofs.source_at.Goals.{then-kind-eq-PULLUP, else-kind-eq-PULLUP}
 
 pub overflow_add-stored : goal.overflow_add-stored
 overflow_add-stored c = omega (arith, mark_limit _ c.mark_of-stored.ensures)
@@ -16,5 +17,8 @@ returns-then-is_input c = source_input _ _ _ (sym c.is_input.ensures ∙ c.if-is
 pub returns : goal.returns
 returns c =
     let inside = sym c.is_input.ensures ∙ c.if-is_input.false in
-    ⊎_elim (λ w. w.1 ∙ source_pullup _ _ _ inside w.0.taken) (λ w. w.1 ∙ source_normal _ _ _ _ inside w.0.left c.mark_of-stored.ensures) c.if-kind-eq-PULLUP.branch
+    elim c.if-kind-eq-PULLUP.branch [
+        then-kind-eq-PULLUP w ↦ w.inner-is ∙ source_pullup _ _ _ inside w.if-kind-eq-PULLUP.true
+        | else-kind-eq-PULLUP w ↦ w.inner-is ∙ source_normal _ _ _ _ inside w.if-kind-eq-PULLUP.false c.mark_of-stored.ensures
+    ]
 

@@ -1,0 +1,11 @@
+-- `runs::settled` meets its contract: no node is changed. Assumes nothing.
+use borrow.Author.Rules.{rules}
+use Rattle.basis.proofs.Steps.{one_sized, settled_test}
+use Rattle.runs.proofs.settled.Goals as goal
+
+pub returns : goal.returns
+returns c =
+    let start = c in
+    let evaluated = c.evaluate.ensures in
+    record { tells = settled_test evaluated start.requires.states (one_sized _) c.first_changed.ensures; spared = evaluated.after }
+

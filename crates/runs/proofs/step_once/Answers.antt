@@ -1,0 +1,18 @@
+-- `runs::step_once` meets its contract: the evaluated step takes effect. Assumes nothing.
+use native.Mathlib.Omega.{arith}
+use mathlib.Core.Path.{◌∙◌}
+use borrow.Author.Rules.{rules}
+use Rattle.basis.proofs.Steps.{one_sized, evaluated_place, evaluated_count, evaluated_states}
+use Rattle.runs.proofs.step_once.Goals as goal
+
+pub returns : goal.returns
+returns c =
+    let start = c in
+    let evaluated = c.evaluate.ensures in
+    record {
+      place = c.first_changed-first.ensures ∙ evaluated_place evaluated start.requires.states;
+      count = c.differing-count.ensures ∙ evaluated_count evaluated start.requires.states;
+      states = c.store.ensures ∙ evaluated_states evaluated start.requires.states (one_sized _);
+      spared = evaluated.after;
+    }
+
