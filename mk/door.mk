@@ -12,14 +12,11 @@
 #
 # LIBRARY names the archive in build/ that is checked. The stand-in is one: LIBRARY=libstandin.
 
-RATTLE_HOME ?= $(shell dirname $$(dirname $$(readlink -f $$(command -v rt))))
 LIB_CRATE ?= door
 LIBRARY ?= libtwistdory
 SEED ?= 1
 NETWORKS ?= 1000000
 TEXTS ?= 200000
-
-export RATTLE_HOME
 
 DOOR_INCLUDES = -Iinclude -Icompare
 DOOR_CFLAGS = -std=c11 -O2 -Wall -Wextra -Werror $(DOOR_INCLUDES)
@@ -34,12 +31,11 @@ DOOR_RUN = run=$$(sh mk/toolchain.sh run)
 
 lib: build/libtwistdory.a
 
-DOOR_CRATES = $(wildcard crates.txt) $(shell find crates -name '*.rt' -o -name '*.antt' 2>/dev/null)
+DOOR_CRATES = $(wildcard crates.txt) $(shell find crates -name out -prune -o \( -name '*.rt' -o -name '*.antt' \) -print 2>/dev/null)
 
 build/libtwistdory.a: $(DOOR_CRATES)
-	@mkdir -p build
-	rt staticlib $(LIB_CRATE)
-	cp target/staticlib/lib$(LIB_CRATE).a $@
+	@sh mk/prove.sh lib $(LIB_CRATE)
+	@cp crates/$(LIB_CRATE)/out/lib$(LIB_CRATE).a $@
 
 # A stand-in over the plain C simulator and reader: it tests the outside check, and nothing else uses it.
 build/libstandin.a: build/outside/standin.o build/outside/standin_text.o build/compare/plain.o build/compare/hashed.o

@@ -1,6 +1,6 @@
 #!/bin/sh
 # The tools of the C side. The library is for x86-64; on another processor C programs are built by
-# Debian's cross compiler and run by the emulator of the Rattle kit.
+# Debian's cross compiler and run by its emulator.
 #
 #   toolchain.sh cc                   prints the C compiler to use, after installing it if need be
 #   toolchain.sh ar                   prints the archiver that goes with it
@@ -9,7 +9,6 @@
 #
 # What is missing and cannot be installed is said in one line; the exit status is then 1.
 set -u
-kit=${RATTLE_HOME:-$(dirname "$(dirname "$(readlink -f "$(command -v rt)")")")}
 machine=$(uname -m)
 
 say() { printf 'toolchain: %s\n' "$*" >&2; }
@@ -45,14 +44,7 @@ ar)
     fi
     ;;
 run)
-    [ "$machine" = x86_64 ] && exit 0
-    emulator=$kit/on/$machine/toolchain/bin/qemu-x86_64
-    if [ -x "$emulator" ]; then
-        echo "$emulator"
-    else
-        say "no emulator for x86-64 programs at $emulator; set RATTLE_HOME to the Rattle kit"
-        exit 1
-    fi
+    [ "$machine" = x86_64 ] || { need qemu-x86_64 qemu-user && echo qemu-x86_64; }
     ;;
 need)
     shift

@@ -14,14 +14,12 @@ TITLES = {
 HEAD = """\
 -- Entries on random networks, sound and flawed, against an outside program that tries every choice: by `outside/choices/choices.py sample {seed} {count}`,
 -- which writes this file and never reads the definitions. Assumes nothing.
-use Prim.Native.Nat.{{ℕ, zero, suc}}
-use mathlib.Core.Path.{{_≡_, refl}}
-use mathlib.Core.List.{{List, [], _∷_, _++_}}
-use Rattle·model.specs.Net.{{Net, stands, linked, spread, joined, strength, set_state, new, step}}
-use Rattle·model.specs.Run.{{Changes, raised, lowered, unit_steps, first_half, second_half}}
-use Rattle·model.specs.Answer.{{row}}
-use Rattle·model.specs.Rules.{{wire_tests, change_tests, check_sizes, check_rules, reset_sizes, reset_rules, step_sizes, step_rules, run_sizes, run_rules, unit_rules, ternary_rules}}
-use Rattle·model.specs.Entries.{{Outcome, altered, first_changed, reset_states, cleared, check_answer, reset_outcome, step_outcome, unit_outcome, ternary_outcome}}
+use Rattle.std.specs.Prelude.{{ℕ, zero, suc, ◌≡◌, refl, List, [], ◌∷◌, ◌++◌}}
+use Rattle.model.specs.Net.{{Net, stands, linked, spread, joined, strength, set_state, new, step}}
+use Rattle.model.specs.Run.{{Changes, raised, lowered, unit_steps, first_half, second_half}}
+use Rattle.model.specs.Answer.{{row}}
+use Rattle.model.specs.Rules.{{wire_tests, change_tests, check_sizes, check_rules, reset_sizes, reset_rules, step_sizes, step_rules, run_sizes, run_rules, unit_rules, ternary_rules}}
+use Rattle.model.specs.Entries.{{Outcome, altered, first_changed, reset_states, cleared, check_answer, reset_outcome, step_outcome, unit_outcome, ternary_outcome}}
 
 -- n cells of 0; n cells of which each is one more than the last
 abbrev zeros : ℕ → List ℕ
@@ -44,7 +42,7 @@ abbrev left : List ℕ → List ℕ → List ℕ → List (List ℕ)
 left answer states work = answer ∷ states ∷ work ∷ []
 
 abbrev told : Outcome → List (List ℕ)
-told o = left (row (o .answer)) (o .states) (o .work)
+told o = left (row o.answer) o.states o.work
 
 abbrev check : Net → List (List ℕ)
 check m = left (row (check_answer m)) [] []

@@ -11,18 +11,15 @@ MOST_BYTES = 60
 
 HEAD = """-- Texts worked out by hand, and what the three entries of a text leave on each: written by `outside/texts/texts.py antt`, which reads texts.txt beside it and
 -- never these definitions. Assumes nothing.
-use Prim.Native.Nat.{ℕ}
-use mathlib.Core.Path.{_≡_, refl}
-use mathlib.Core.List.{List, [], _∷_, _++_}
-use lib.ListN.{length, replicate, drop}
-use Rattle·model.specs.Answer.{row}
-use Rattle·model.specs.Net.{Net, net_of}
-use Rattle·model.specs.Rules.{check_sizes}
-use Rattle·text.specs.Bytes.{bytes, part, next}
-use Rattle·text.specs.Lines.{starts_from, line_starts, field, opening, names_from, line_by, lineOf}
-use Rattle·text.specs.Netlist.{numberOf, kindOf, named, pulls, joined, device, added, offends, readOn, reading}
-use Rattle·text.specs.Reading.{Read, over, read_into, read_sizes, read_outcome, full_reading, name_part, Listed, list_into, names_outcome}
-use Rattle·text.specs.declared.Span.{Span}
+use Rattle.std.specs.Prelude.{ℕ, ◌≡◌, refl, List, [], ◌∷◌, ◌++◌, length, replicate, drop}
+use Rattle.model.specs.Answer.{row}
+use Rattle.model.specs.Net.{Net, net_of}
+use Rattle.model.specs.Rules.{check_sizes}
+use Rattle.text.specs.Bytes.{bytes, part, next}
+use Rattle.text.specs.Lines.{starts_from, line_starts, field, opening, names_from, line_by, line_of}
+use Rattle.text.specs.Netlist.{number_of, kind_of, named, pulls, joined, device, added, offends, read_on, reading}
+use Rattle.text.specs.Reading.{Read, over, read_into, read_sizes, read_outcome, full_reading, name_part, Listed, list_into, names_outcome}
+use Rattle.text.specs.declared.Span.{Span}
 
 -- what is lent: a table for each, filled with a number of its own
 abbrev room : ℕ → ℕ → Net
@@ -30,16 +27,16 @@ room n t = net_of (replicate n 7) (replicate t 8) (replicate t 9) (replicate t 1
 
 abbrev whole : Read → Listed → Span → Span → List (List ℕ)
 whole r l first past =
-    row (r .answer)
-    ∷ r .tables .kinds
-    ∷ r .tables .types
-    ∷ r .tables .gates
-    ∷ r .tables .sources
-    ∷ r .tables .drains
-    ∷ row (l .answer)
-    ∷ l .starts
-    ∷ l .sizes
-    ∷ (first .start ∷ first .size ∷ past .start ∷ past .size ∷ [])
+    row r.answer
+    ∷ r.tables.kinds
+    ∷ r.tables.types
+    ∷ r.tables.gates
+    ∷ r.tables.sources
+    ∷ r.tables.drains
+    ∷ row l.answer
+    ∷ l.starts
+    ∷ l.sizes
+    ∷ (first.start ∷ first.size ∷ past.start ∷ past.size ∷ [])
     ∷ []
 
 -- what the entries leave: reading with room for n nodes and t transistors, the names with room for m, the name of node 0, and that of node k
@@ -57,7 +54,7 @@ left n t m answer kinds types gates sources drains names starts sizes parts =
 
 TAIL = """
 pub excerpts : found ≡ wanted
-unfolding part next starts_from line_starts field opening names_from line_by lineOf numberOf kindOf named pulls joined device added offends readOn reading over read_into check_sizes read_sizes read_outcome full_reading name_part list_into names_outcome
+unfolding part next starts_from line_starts field opening names_from line_by line_of number_of kind_of named pulls joined device added offends read_on reading over read_into check_sizes read_sizes read_outcome full_reading name_part list_into names_outcome
 excerpts = refl
 """
 
