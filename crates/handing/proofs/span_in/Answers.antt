@@ -4,7 +4,7 @@ use Rattle.handing.proofs.Handing.{roomy_taken, span_refused, span_unused, span_
 use Rattle.handing.proofs.span_in.Goals as goal
 
 pub returns-then-counts-number : goal.returns-then-counts-number
-returns-then-counts-number c = span_unused _ _ _ _ _ c.in-Taken.is c.if-counts-number.true
+returns-then-counts-number c = span_unused _ _ _ _ _ c.in-Taken.is (omega (arith, c.if-counts-number.true))
 
 pub offset_bounds-starts-number : goal.offset_bounds-starts-number
 offset_bounds-starts-number c = omega (arith, (roomy_taken _ _ _ c.requires.0 _ c.in-Taken.is).0)
@@ -19,4 +19,4 @@ pub returns-in-Refused : goal.returns-in-Refused
 returns-in-Refused c = span_refused _ _ _ _ _ c.in-Refused.is
 
 pub returns-else-counts-number : goal.returns-else-counts-number
-returns-else-counts-number c = span_used _ _ _ _ _ c.in-Taken.is c.if-counts-number.false
+returns-else-counts-number c = span_used _ _ _ _ _ c.in-Taken.is (omega (arith, c.if-counts-number.false))
