@@ -1,4 +1,6 @@
 // What an entry does once all that it is lent is accepted: it runs, and clears the work cells that it used.
+#![tactic(auto)]
+
 ghost use Rattle.std.specs.Prelude.{◌≡◌, cond};
 ghost use Rattle.model.specs.Run.{changes_of};
 ghost use Rattle.model.specs.Net.{net_of};

@@ -1,4 +1,6 @@
 // An answer's four numbers, as the table of answers has them: number, place, first count, second count.
+#![tactic(auto)]
+
 ghost use Rattle.std.specs.Prelude.{◌≡◌};
 ghost use Rattle.model.specs.Answer.{row, number, place, first_count, second_count};
 

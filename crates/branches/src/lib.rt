@@ -1,4 +1,6 @@
 // Branches, each transistor seen from either of its ends, and the codes that the cells of a step's tables hold.
+#![tactic(auto)]
+
 ghost use Rattle.std.specs.Prelude.{◌≡◌, cond, ◌*◌, ◌≤◌, ◌<◌, length};
 ghost use Rattle.branches.specs.Branch.{end_of};
 ghost use Rattle.branches.specs.Code.{telling, mark_of, together, unlike, begin};

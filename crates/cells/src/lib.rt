@@ -1,5 +1,7 @@
 // Single tables, written or compared place by place: work cells at 0, states as reset leaves them, changes entered, an evaluated step taking
 // effect.
+#![tactic(auto)]
+
 ghost use Rattle.std.specs.Prelude.{◌+◌, ◌≤◌, ◌≡◌, not, cond, length, eqb};
 ghost use Rattle.model.specs.Places.{tab, at};
 ghost use Rattle.model.specs.Bounds.{most_nodes};

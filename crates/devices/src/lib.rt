@@ -1,4 +1,6 @@
 // Devices in tables with room: a pullup, or one more transistor; and the lines of a text in turn, up to the first that offends.
+#![tactic(auto)]
+
 ghost use Rattle.std.specs.Prelude.{◌+◌, ◌≤◌, ◌<◌, ◌≡◌, ◌&&◌, ◌||◌, length, eqb, ltb};
 ghost use Rattle.model.specs.Places.{at};
 ghost use Rattle.model.specs.Net.{net_of};

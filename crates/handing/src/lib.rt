@@ -1,5 +1,7 @@
 // What was read into tables of the call's own is handed over to the lent ones: the fronts of the tables, the part that is a node's name, the
 // names of all nodes. A refusal hands over nothing.
+#![tactic(auto)]
+
 ghost use Rattle.std.specs.Prelude.{◌≤◌, ◌≡◌, [], length, take};
 ghost use Rattle.model.specs.Net.{net_of, alone};
 ghost use Rattle.basis.specs.Sound.{Sized};

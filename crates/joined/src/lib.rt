@@ -1,4 +1,6 @@
 // The nodes are parted into the sets that sure branches join: each set is flooded once, and both tables begin with what its nodes tell of sources together.
+#![tactic(auto)]
+
 ghost use Rattle.std.specs.Prelude.{◌≡◌, ◌&&◌, ◌*◌, ◌≤◌, ◌<◌, length, eqb};
 ghost use Rattle.branches.specs.Code.{telling};
 ghost use Rattle.joined.specs.Sets.{StartableSome, PartedAny};

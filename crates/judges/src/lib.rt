@@ -1,5 +1,7 @@
 // The judges of what is lent, one for each entry. Each finds the first rule that is broken, at the first place that breaks it,
 // in the order of the answers' numbers, and writes nothing.
+#![tactic(auto)]
+
 ghost use Rattle.std.specs.Prelude.{◌≤◌, ◌≡◌, [], ◌∷◌, length};
 ghost use Rattle.model.specs.Bounds.{most_nodes};
 ghost use Rattle.model.specs.Run.{changes_of};

@@ -1,6 +1,8 @@
 // One look at each transistor: what inputs bring is put at once into the cells of the nodes at the other ends, and what is not open between
 // other nodes is put into the lists of branches. The work area of n nodes: in [0, n) what inputs bring through unknown transistors, in [n, 2n)
 // the sources of each node, in [3n, 4n) the last branch of each node, from 4n on the branch before each.
+#![tactic(auto)]
+
 ghost use Rattle.std.specs.Prelude.{◌≡◌, true, false, not, cond, ◌&&◌, ◌+◌, ◌*◌, ◌≤◌, ◌<◌, length};
 ghost use Rattle.model.specs.Bounds.{most_nodes, most_transistors};
 ghost use Rattle.model.specs.Places.{at};

@@ -1,5 +1,7 @@
 // What an entry answers, shared by the code and by the definitions of its meaning. The definitions of a network, of its steps and of its
 // runs are in specs/; what is proved of them is the crate laws.
+#![tactic(auto)]
+
 ghost use Rattle.std.specs.Prelude.{◌≡◌};
 ghost use Rattle.model.specs.Net.{input_kind};
 

@@ -1,6 +1,8 @@
 // Names and their numbers. The known names stand in two tables, where each first appears and its size, with the kinds beside them. So that a
 // name is sought among few, those that share a number made of their bytes are linked in a chain: `heads` has the last node of each chain and
 // `nexts` the node before a node in its chain, each as one more than its number, and 0 for none.
+#![tactic(auto)]
+
 ghost use Rattle.std.specs.Prelude.{◌+◌, ◌≤◌, ◌<◌, ◌≡◌, [], ◌∷◌, length};
 ghost use Rattle.model.specs.Places.{same};
 ghost use Rattle.text.specs.Bytes.{span, past, part};

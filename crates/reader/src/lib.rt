@@ -1,6 +1,8 @@
 // The entries of the text: a text read into lent tables, the name of a node as a part of the text, and all names at once. Each says in its
 // contract what it answers and what it leaves in each table that it may write, on every input. A text is read into tables of the call's own
 // and handed over when it is taken, so that a refusal has touched nothing.
+#![tactic(auto)]
+
 ghost use Rattle.std.specs.Prelude.{◌≤◌, ◌≡◌, length};
 ghost use Rattle.model.specs.Net.{net_of};
 ghost use Rattle.basis.specs.Sound.{Sized};

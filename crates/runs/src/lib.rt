@@ -1,5 +1,7 @@
 // Loops over steps: changes entered, steps until the state is settled, and from these the unit run and the ternary run, on tables
 // that were checked.
+#![tactic(auto)]
+
 ghost use Rattle.std.specs.Prelude.{◌≡◌, ◌≤◌, length};
 ghost use Rattle.model.specs.Bounds.{highest_limit};
 ghost use Rattle.model.specs.Net.{net_of, is_input, step};

@@ -1,4 +1,6 @@
 // Lines and fields of the text, found in one pass over its bytes: no scan looks beyond its line, since each stops at a line feed.
+#![tactic(auto)]
+
 ghost use Rattle.std.specs.Prelude.{◌+◌, ◌≤◌, ◌≡◌, ◌&&◌, ◌||◌, [], ◌∷◌, length, eqb, leb};
 ghost use Rattle.text.specs.Bytes.{past, part, next};
 ghost use Rattle.text.specs.Lines.{blank, line_end, field, opening, names_from, all_fit, line_by, line_at};

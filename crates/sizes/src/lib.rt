@@ -1,4 +1,6 @@
 // The tests of SIZE: whether a length that is lent breaks the bounds or the equal lengths.
+#![tactic(auto)]
+
 ghost use Rattle.std.specs.Prelude.{◌≤◌, ◌≡◌, []};
 ghost use Rattle.model.specs.Bounds.{most_nodes, most_transistors, cells_for};
 ghost use Rattle.model.specs.Places.{any};

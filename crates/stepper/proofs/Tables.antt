@@ -7,7 +7,6 @@ use mathlib.Core.Bool.{Bool, true, false, cond}
 use mathlib.Core.List.{List, []}
 use lib.Dec.{eqb}
 use borrow.Author.Tests.{eq-eqb, ne_eqb}
-use Rattle.model.specs.Places.{at}
 use Rattle.model.specs.Net.{Net, nodes, is_input, stand_at}
 use Rattle.model.specs.Ways.{Frame, Inside, Joins, choose}
 use Rattle.model.specs.Tables.{Came, began, Least}

@@ -1,6 +1,8 @@
 // One unit step of a network, evaluated in the lent work area: the next states of all nodes from the same old ones.
 // The work area of n nodes: the table against 1 in [0, n), the table against 0 in [n, 2n), the nodes that are kept and a queue in [2n, 3n), the
 // lists of branches from 3n on; at the end the next states in [0, n).
+#![tactic(auto)]
+
 ghost use Rattle.std.specs.Prelude.{◌≡◌, ◌*◌, ◌≤◌, ◌<◌, length};
 ghost use Rattle.model.specs.Net.{net_of, alone, transistors};
 ghost use Rattle.model.specs.Bounds.{most_nodes};

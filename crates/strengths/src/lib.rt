@@ -1,4 +1,6 @@
 // Strengths spread along branches, the strongest first.
+#![tactic(auto)]
+
 ghost use Rattle.std.specs.Prelude.{◌≡◌, ◌⊎◌, min, ◌+◌, ◌*◌, ◌-◌, ◌/◌, ◌≤◌, ◌<◌, length};
 ghost use Rattle.branches.specs.Branch.{Wires, end_of, ceiling_of};
 ghost use Rattle.strengths.specs.Spread.{member_at, Ready, Told, FilledAny};

@@ -1,4 +1,6 @@
 // The first bad place of each table that is lent, or the table's length where there is none.
+#![tactic(auto)]
+
 ghost use Rattle.std.specs.Prelude.{◌<◌, ◌≡◌, length, eqb, ltb};
 ghost use Rattle.model.specs.Places.{some, any, first, at};
 ghost use Rattle.model.specs.Net.{net_of, alone};

@@ -1,5 +1,6 @@
 // What a line of the extractor's text is, shared by the code and by the definitions of its meaning. The definitions of a text's lines, of the
 // network that they add up to, and of what reading answers and leaves are in specs/; what is proved of them is the crate textlaws.
+#![tactic(auto)]
 
 // A part of the text: where it starts, and how many bytes it has.
 #[derive(Clone, Copy)]

@@ -1,5 +1,7 @@
 // The simulator's entries. Each checks all that it is lent, answers with one of nine kinds of answer, and says in its contract what it
 // answers and what it leaves in each buffer that it may write, on every input.
+#![tactic(auto)]
+
 ghost use Rattle.std.specs.Prelude.{◌≡◌, []};
 ghost use Rattle.model.specs.Run.{changes_of};
 ghost use Rattle.model.specs.Net.{net_of};

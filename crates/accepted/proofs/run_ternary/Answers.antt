@@ -1,8 +1,6 @@
 -- `run_ternary` meets its contract: what was accepted is what a ternary run asks for, and the cells that it used are cleared. Assumes nothing.
 use native.Mathlib.Omega.{arith}
 use mathlib.Core.Path.{refl, sym, ◌∙◌}
-use borrow.Author.Rules.{rules}
-use borrow.Author.Tests.{not-true, not-false}
 use Rattle.basis.proofs.Acceptance.{checked, ternary_accepted}
 use Rattle.accepted.proofs.Running.{start_leaves, ternary_leaves}
 use Rattle.accepted.proofs.run_ternary.Goals as goal
@@ -50,4 +48,3 @@ returns c =
     let start = c in
     ternary_leaves _ _ _ _ _ (omega arith) _ c.cells_for-used.ensures c.clear-2.ensures _ start.requires
     (sym rest.ensures.tells ∙ c.if-not-settled.false) rest.ensures.spared ran.ensures
-

@@ -1,7 +1,6 @@
 -- `run_unit` meets its contract: what was accepted is what a unit run asks for, and the cells that it used are cleared. Assumes nothing.
 use native.Mathlib.Omega.{arith}
 use mathlib.Core.Path.{refl}
-use borrow.Author.Rules.{rules}
 use Rattle.basis.proofs.Acceptance.{checked, named, unit_accepted}
 use Rattle.accepted.proofs.Running.{unit_leaves}
 use Rattle.accepted.proofs.run_unit.Goals as goal
@@ -29,4 +28,3 @@ returns c =
     let start = c in
     rw (c.ran_answer.ensures, c.limit_of.ensures)
     (unit_leaves _ _ _ _ _ (omega arith) _ c.cells_for-used.ensures c.clear.ensures _ _ start.requires ran.ensures)
-

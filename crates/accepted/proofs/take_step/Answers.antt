@@ -1,7 +1,6 @@
 -- `take_step` meets its contract: what was accepted is what a step asks for, and the cells that it used are cleared. Assumes nothing.
 use native.Mathlib.Omega.{arith}
 use mathlib.Core.Path.{refl}
-use borrow.Author.Rules.{rules}
 use Rattle.basis.proofs.Acceptance.{checked, step_accepted}
 use Rattle.accepted.proofs.Running.{step_leaves}
 use Rattle.accepted.proofs.take_step.Goals as goal
@@ -29,4 +28,3 @@ returns c =
     let kept = stepped.auto in
     step_leaves _ _ _ _ _ (omega arith) _ c.cells_for-used.ensures c.clear.ensures
     c.requires stepped.ensures
-

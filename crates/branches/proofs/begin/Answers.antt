@@ -1,10 +1,7 @@
 -- `branches::begin` meets its contract: by what the two cells tell. Assumes nothing.
 use native.Mathlib.Omega.{arith}
-use borrow.Author.Rules.{rules}
 use mathlib.Core.Path.{sym, ◌∙◌}
-use Rattle.branches.specs.Code.{mark, unlike}
 use Rattle.branches.proofs.Codes.{begin_offered, begin_else}
-use Rattle.branches.proofs.Degrees.{cond_few}
 use Rattle.branches.proofs.begin.Goals as goal
 
 pub returns-then-unlike : goal.returns-then-unlike
@@ -12,4 +9,3 @@ returns-then-unlike c = begin_offered _ _ _ (sym c.unlike.ensures ∙ c.if-unlik
 
 pub returns : goal.returns
 returns c = begin_else _ _ _ _ (omega (arith, c.requires)) (sym c.unlike.ensures ∙ c.if-unlike.false) c.unlike_bit.ensures
-

@@ -1,7 +1,4 @@
 -- `branches::end_of` meets its contract: by whether the branch is even. Assumes nothing.
-use native.Mathlib.Omega.{arith}
-use borrow.Author.Rules.{rules}
-use Prim.Native.Nat.{◌/◌}
 use mathlib.Core.Path.{sym}
 use Rattle.branches.proofs.Ends.{end_at, end_else}
 use Rattle.branches.proofs.end_of.Goals as goal
@@ -11,4 +8,3 @@ returns-then-h-eq0 c = sym (end_at _ _ _ c.if-h-eq0.true)
 
 pub returns : goal.returns
 returns c = sym (end_else _ _ _ c.if-h-eq0.false)
-

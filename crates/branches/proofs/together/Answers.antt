@@ -1,5 +1,4 @@
 -- `branches::together` meets its contract: the stronger cell, or both marks. Assumes nothing.
-use borrow.Author.Rules.{rules}
 use Rattle.branches.proofs.Codes.{together-same, together-mixed, together_second, together-first}
 use Rattle.branches.proofs.together.Goals as goal
 
@@ -14,4 +13,3 @@ returns-then-a-b-3 c = together_second _ _ c.if-a-b.false c.if-a-b-3.true
 
 pub returns : goal.returns
 returns c = together-first _ _ c.if-a-b.false c.if-a-b-3.false
-

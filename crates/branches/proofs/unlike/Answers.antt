@@ -7,4 +7,3 @@ returns-then-b-eq0 c = unlike_0 _ _ c.if-b-eq0.true
 
 pub returns : goal.returns
 returns c = unlike_1 _ _ c.if-b-eq0.false
-

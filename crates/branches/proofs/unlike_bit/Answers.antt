@@ -7,4 +7,3 @@ returns-then-b-eq0 c = bit_0 _ _ c.requires c.if-b-eq0.true
 
 pub returns : goal.returns
 returns c = bit_1 _ _ c.if-b-eq0.false
-

@@ -9,7 +9,6 @@ use lib.ListN.{length}
 use lib.Dec.{ltb}
 use lib.Seq.{ext_get_or}
 use borrow.Author.Tests.{ltb-true, ltb-false}
-use borrow.Author.Rules.{rules}
 use Rattle.model.specs.Places.{at}
 use Rattle.model.specs.Entries.{cleared}
 use Rattle.laws.proofs.Outcomes.{cleared-length, cleared-cell, cleared-rest}
@@ -25,4 +24,3 @@ zeroed {w} {w'} {used} z e = ext_get_or 0 w' (cleared used w) (e ∙ sym (cleare
 
 pub returns : goal.returns
 returns c = zeroed c.zero.ensures (omega (arith, c.zero.auto))
-

@@ -1,12 +1,6 @@
 -- `cells::differing` meets its contract: it has counted the nodes passed. Assumes nothing.
-use Prim.Native.Nat.{◌-◌, ◌≤◌}
 use native.Mathlib.Nat.{le_antisymm}
 use native.Mathlib.Omega.{arith}
-use mathlib.Core.Path.{◌≡◌, refl}
-use lib.ListN.{length}
-use borrow.Author.Rules.{rules}
-use Rattle.model.specs.Places.{count}
-use Rattle.model.specs.Run.{changed}
 use Rattle.basis.proofs.Altered.{one_few, count_few, count_more, count_end}
 use Rattle.cells.proofs.differing.Goals as goal
 
@@ -24,4 +18,3 @@ loop-node-preserved c =
 
 pub returns : goal.returns
 returns c = count_end _ _ _ _ (le_antisymm c.loop-node.invariant.0 c.loop-node-test.false) c.loop-node.invariant.1
-

@@ -1,13 +1,9 @@
 -- `cells::differing` meets its contract: it has counted the nodes passed. Assumes nothing.
 use Prim.Native.Nat.{◌-◌, ◌≤◌}
-use native.Mathlib.Nat.{le_antisymm}
-use native.Mathlib.Omega.{arith}
-use mathlib.Core.Path.{◌≡◌, refl}
+use mathlib.Core.Path.{◌≡◌}
 use lib.ListN.{length}
-use borrow.Author.Rules.{rules}
 use Rattle.model.specs.Places.{count}
 use Rattle.model.specs.Run.{changed}
-use Rattle.basis.proofs.Altered.{one_few, count_few, count_more, count_end}
 use Rattle.cells.proofs.differing.Given as goal
 
 abbrev pub invariant-loop-node : goal.invariant-loop-node

@@ -1,10 +1,8 @@
 -- `cells::enter` meets its contract: the changes passed are entered. Assumes nothing.
 use Prim.Native.Nat.{◌-◌, ◌≤◌}
-use native.Mathlib.Omega.{arith}
-use mathlib.Core.Path.{◌≡◌, refl, ◌∙◌}
-use lib.ListN.{length, length-set}
-use borrow.Author.Rules.{rules}
-use Rattle.basis.proofs.Entering.{entering, entering_more, entering_all}
+use mathlib.Core.Path.{◌≡◌}
+use lib.ListN.{length}
+use Rattle.basis.proofs.Entering.{entering}
 use Rattle.cells.proofs.enter.Given as goal
 
 abbrev pub invariant-loop-e : goal.invariant-loop-e

@@ -1,15 +1,4 @@
 -- `cells::first_changed` meets its contract: no node passed is changed. Assumes nothing.
-use Prim.Native.Nat.{ℕ, ◌≤◌, ◌-◌}
-use native.Mathlib.Omega.{arith}
-use mathlib.Core.Path.{◌≡◌, ap}
-use mathlib.Core.Bool.{false, not}
-use borrow.Author.Count.{below_more}
-use borrow.Author.Rules.{rules}
-use borrow.Author.Tests.{eq-eqb}
-use lib.ListN.{length}
-use mir.Facts.{Fits-8_16}
-use Rattle.model.specs.Run.{changed}
-use Rattle.basis.proofs.Finding.{NoneBelow, none_yet}
 use Rattle.basis.proofs.Altered.{first_here, first_nowhere}
 use Rattle.cells.proofs.first_changed.Goals as goal
 
@@ -22,4 +11,3 @@ pub returns : goal.returns
 returns c =
     let a = c.args in
     first_nowhere a.states.now a.work.now _ c.loop-node.invariant.0 c.loop-node-test.false c.loop-node.invariant.1
-

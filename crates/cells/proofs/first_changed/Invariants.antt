@@ -1,16 +1,8 @@
 -- `cells::first_changed` meets its contract: no node passed is changed. Assumes nothing.
-use Prim.Native.Nat.{ℕ, ◌≤◌, ◌-◌}
-use native.Mathlib.Omega.{arith}
-use mathlib.Core.Path.{◌≡◌, ap}
-use mathlib.Core.Bool.{false, not}
-use borrow.Author.Count.{below_more}
-use borrow.Author.Rules.{rules}
-use borrow.Author.Tests.{eq-eqb}
+use Prim.Native.Nat.{◌≤◌, ◌-◌}
 use lib.ListN.{length}
-use mir.Facts.{Fits-8_16}
 use Rattle.model.specs.Run.{changed}
-use Rattle.basis.proofs.Finding.{NoneBelow, none_yet}
-use Rattle.basis.proofs.Altered.{first_here, first_nowhere}
+use Rattle.basis.proofs.Finding.{NoneBelow}
 use Rattle.cells.proofs.first_changed.Given as goal
 
 abbrev pub invariant-loop-node : goal.invariant-loop-node

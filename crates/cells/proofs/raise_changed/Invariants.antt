@@ -1,11 +1,9 @@
 -- `cells::raise_changed` meets its contract: the changes passed are raised. Assumes nothing.
 use Prim.Native.Nat.{◌-◌, ◌≤◌}
-use native.Mathlib.Omega.{arith}
-use mathlib.Core.Path.{◌≡◌, refl, sym, ap, ◌∙◌}
-use lib.ListN.{length, length-set}
-use borrow.Author.Rules.{rules}
+use mathlib.Core.Path.{◌≡◌}
+use lib.ListN.{length}
 use Rattle.model.specs.Run.{raised}
-use Rattle.basis.proofs.Entering.{entering, entering_all, raised_none, raising_more}
+use Rattle.basis.proofs.Entering.{entering}
 use Rattle.cells.proofs.raise_changed.Given as goal
 
 abbrev pub invariant-loop-e : goal.invariant-loop-e

@@ -1,14 +1,10 @@
 -- `cells::reset_states` meets its contract: each node passed has what reset gives its kind. Assumes nothing.
 use Prim.Native.Nat.{◌-◌, ◌≤◌}
-use native.Mathlib.Nat.{le_antisymm}
-use native.Mathlib.Omega.{arith}
-use mathlib.Core.Path.{◌≡◌, ◌∙◌}
-use lib.ListN.{length, length-set}
-use borrow.Author.Rules.{rules}
+use mathlib.Core.Path.{◌≡◌}
+use lib.ListN.{length}
 use Rattle.model.specs.Places.{at}
-use Rattle.model.specs.Entries.{reset_state, reset_states}
+use Rattle.model.specs.Entries.{reset_state}
 use Rattle.basis.specs.Cells.{Written}
-use Rattle.basis.proofs.Cells.{written_none, written_more, written_end, written_all}
 use Rattle.cells.proofs.reset_states.Given as goal
 
 abbrev pub invariant-loop-i : goal.invariant-loop-i

@@ -1,13 +1,9 @@
 -- `cells::store` meets its contract: the nodes passed have their next states. Assumes nothing.
 use Prim.Native.Nat.{◌-◌, ◌≤◌}
-use native.Mathlib.Nat.{le_antisymm}
-use native.Mathlib.Omega.{arith}
-use mathlib.Core.Path.{◌≡◌, refl, ◌∙◌}
-use lib.ListN.{length, length-set}
-use borrow.Author.Rules.{rules}
+use mathlib.Core.Path.{◌≡◌}
+use lib.ListN.{length}
 use Rattle.model.specs.Places.{at}
 use Rattle.basis.specs.Cells.{Written}
-use Rattle.basis.proofs.Cells.{written_none, written_more, written_end, written_all}
 use Rattle.cells.proofs.store.Given as goal
 
 abbrev pub invariant-loop-v : goal.invariant-loop-v

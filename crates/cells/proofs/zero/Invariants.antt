@@ -1,12 +1,8 @@
 -- `cells::zero` meets its contract: the cells passed are 0, the others as they came. Assumes nothing.
 use Prim.Native.Nat.{◌-◌, ◌≤◌}
-use native.Mathlib.Nat.{le_antisymm}
-use native.Mathlib.Omega.{arith}
-use mathlib.Core.Path.{◌≡◌, refl}
-use lib.ListN.{length, length-set}
-use borrow.Author.Rules.{rules}
+use mathlib.Core.Path.{◌≡◌}
+use lib.ListN.{length}
 use Rattle.basis.specs.Cells.{Written}
-use Rattle.basis.proofs.Cells.{written_none, written_more, written_end}
 use Rattle.cells.proofs.zero.Given as goal
 
 abbrev pub invariant-loop-k : goal.invariant-loop-k

@@ -1,10 +1,6 @@
 -- `joined::begin_all` meets its contract: the tables have begun at the nodes passed. Assumes nothing.
-use Prim.Native.Nat.{◌+◌, ◌*◌, ◌-◌, ◌≤◌}
-use native.Mathlib.Nat.{le_antisymm}
-use native.Mathlib.Omega.{arith}
-use borrow.Author.Rules.{rules}
+use Prim.Native.Nat.{◌-◌, ◌≤◌}
 use Rattle.joined.specs.Floods.{BegunAll}
-use Rattle.joined.proofs.Beginning.{begun_none, node_inside, begun_more, begun_end}
 use Rattle.joined.proofs.begin_all.Given as goal
 
 abbrev pub invariant-loop-k : goal.invariant-loop-k

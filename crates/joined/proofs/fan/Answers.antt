@@ -1,10 +1,7 @@
 -- `joined::fan` meets its contract: the entries passed were followed, and the next is lower. Assumes nothing.
-use Prim.Native.Nat.{◌+◌, ◌*◌, ◌-◌, ◌/◌}
 use native.Mathlib.Omega.{arith}
-use mathlib.Core.Path.{◌≡◌, refl}
-use lib.ListN.{length}
-use borrow.Author.Rules.{rules}
-use Rattle.joined.specs.Floods.{Chain, start, next, fanned}
+use mathlib.Core.Path.{refl}
+use Rattle.joined.specs.Floods.{start, next, fanned}
 use Rattle.joined.proofs.Fanning.{fan_inside, fan_visitable, fan_less}
 use Rattle.joined.proofs.fan.Goals as goal
 
@@ -47,4 +44,3 @@ loop-e-preserved c =
 
 pub returns : goal.returns
 returns c = fanned _ c.untouched-sure.ensures c.loop-e.invariant.1 c.loop-e-test.false
-

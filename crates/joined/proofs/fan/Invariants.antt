@@ -1,11 +1,7 @@
 -- `joined::fan` meets its contract: the entries passed were followed, and the next is lower. Assumes nothing.
-use Prim.Native.Nat.{◌+◌, ◌*◌, ◌-◌, ◌/◌}
-use native.Mathlib.Omega.{arith}
-use mathlib.Core.Path.{◌≡◌, refl}
+use mathlib.Core.Path.{◌≡◌}
 use lib.ListN.{length}
-use borrow.Author.Rules.{rules}
-use Rattle.joined.specs.Floods.{Chain, start, next, fanned}
-use Rattle.joined.proofs.Fanning.{fan_inside, fan_visitable, fan_less}
+use Rattle.joined.specs.Floods.{Chain}
 use Rattle.joined.proofs.fan.Given as goal
 
 abbrev pub invariant-loop-e : goal.invariant-loop-e

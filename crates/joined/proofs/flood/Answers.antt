@@ -1,10 +1,7 @@
 -- `joined::flood` meets its contract: the nodes passed in the queue are done with. Assumes nothing.
-use Prim.Native.Nat.{◌+◌, ◌*◌, ◌-◌}
 use native.Mathlib.Omega.{arith}
-use mathlib.Core.Path.{◌≡◌, refl}
-use lib.ListN.{length}
-use borrow.Author.Rules.{rules}
-use Rattle.joined.specs.Floods.{Emptied, begins, takes, flooded}
+use mathlib.Core.Path.{refl}
+use Rattle.joined.specs.Floods.{begins, takes, flooded}
 use Rattle.joined.proofs.Flooding.{flood_room, flood_inside, flood_few, flood_fannable}
 use Rattle.joined.proofs.flood.Goals as goal
 
@@ -54,4 +51,3 @@ loop-k-preserved c =
 
 pub returns : goal.returns
 returns c = flooded c.reach-found.ensures c.loop-k.invariant.1 c.loop-k-test.false
-

@@ -1,11 +1,8 @@
 -- `joined::flood` meets its contract: the nodes passed in the queue are done with. Assumes nothing.
-use Prim.Native.Nat.{◌+◌, ◌*◌, ◌-◌}
-use native.Mathlib.Omega.{arith}
-use mathlib.Core.Path.{◌≡◌, refl}
+use Prim.Native.Nat.{◌-◌}
+use mathlib.Core.Path.{◌≡◌}
 use lib.ListN.{length}
-use borrow.Author.Rules.{rules}
-use Rattle.joined.specs.Floods.{Emptied, begins, takes, flooded}
-use Rattle.joined.proofs.Flooding.{flood_room, flood_inside, flood_few, flood_fannable}
+use Rattle.joined.specs.Floods.{Emptied}
 use Rattle.joined.proofs.flood.Given as goal
 
 abbrev pub invariant-loop-k : goal.invariant-loop-k

@@ -1,8 +1,5 @@
 -- `joined::follow` meets its contract: by whether the branch is sure. Assumes nothing.
-use native.Mathlib.Omega.{arith}
-use borrow.Author.Rules.{rules}
 use Rattle.joined.specs.Floods.{passed, along}
-use Rattle.joined.proofs.Reaching.{reached_visits}
 use Rattle.joined.proofs.follow.Goals as goal
 
 pub returns-then-e-eq1 : goal.returns-then-e-eq1
@@ -10,4 +7,3 @@ returns-then-e-eq1 c = passed c.if-e-eq1.true
 
 pub returns : goal.returns
 returns c = along _ c.if-e-eq1.false c.end_of-b.ensures c.reach-r.ensures
-

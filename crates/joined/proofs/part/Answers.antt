@@ -1,8 +1,6 @@
 -- `joined::part` meets its contract: by whether the node was taken, has a branch, and is of a set that is sure. Assumes nothing.
-use native.Mathlib.Omega.{arith}
-use borrow.Author.Rules.{rules}
 use Rattle.joined.specs.Floods.{past, alone, quiet, keeps}
-use Rattle.joined.proofs.Turning.{turn_told, turn_floodable, turn_listed}
+use Rattle.joined.proofs.Turning.{turn_floodable, turn_listed}
 use Rattle.joined.proofs.part.Goals as goal
 
 pub returns-then-m-lt-TELLING : goal.returns-then-m-lt-TELLING
@@ -28,4 +26,3 @@ pub returns : goal.returns
 returns c =
     let untaken = c.if-m-lt-TELLING.false in
     keeps untaken c.flood-found.ensures c.begin_all.ensures
-

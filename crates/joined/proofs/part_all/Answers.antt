@@ -1,10 +1,7 @@
 -- `joined::part_all` meets its contract: the sets of the nodes passed are taken. Assumes nothing.
-use Prim.Native.Nat.{◌-◌, ◌≤◌}
 use native.Mathlib.Omega.{arith}
-use mathlib.Core.Path.{◌≡◌, refl}
-use lib.ListN.{length}
-use borrow.Author.Rules.{rules}
-use Rattle.joined.specs.Floods.{Turns, nothing, turn}
+use mathlib.Core.Path.{refl}
+use Rattle.joined.specs.Floods.{nothing, turn}
 use Rattle.joined.proofs.Turning.{visits_few, turns_law, taking_end}
 use Rattle.joined.proofs.part_all.Goals as goal
 
@@ -28,4 +25,3 @@ returns c =
     let start = c in
     let end = c.loop-v in
     (λ listed unsure S. taking_end S c.loop-v-test.false (turns_law S end.invariant.2), visits_few (turns_law start.requires.2 end.invariant.2))
-

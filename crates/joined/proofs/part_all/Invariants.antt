@@ -1,11 +1,8 @@
 -- `joined::part_all` meets its contract: the sets of the nodes passed are taken. Assumes nothing.
 use Prim.Native.Nat.{◌-◌, ◌≤◌}
-use native.Mathlib.Omega.{arith}
-use mathlib.Core.Path.{◌≡◌, refl}
+use mathlib.Core.Path.{◌≡◌}
 use lib.ListN.{length}
-use borrow.Author.Rules.{rules}
-use Rattle.joined.specs.Floods.{Turns, nothing, turn}
-use Rattle.joined.proofs.Turning.{visits_few, turns_law, taking_end}
+use Rattle.joined.specs.Floods.{Turns}
 use Rattle.joined.proofs.part_all.Given as goal
 
 abbrev pub invariant-loop-v : goal.invariant-loop-v

@@ -1,7 +1,6 @@
 -- `joined::reach` meets its contract: by whether the node was taken. Assumes nothing.
 use native.Mathlib.Omega.{arith}
 use lib.ListN.{length-set}
-use borrow.Author.Rules.{rules}
 use Rattle.joined.specs.Floods.{taken}
 use Rattle.joined.proofs.Reaching.{room_tail, joins_by}
 use Rattle.joined.proofs.reach.Goals as goal
@@ -39,4 +38,3 @@ overflow_add-result c =
 
 pub returns : goal.returns
 returns c = joins_by _ c.if-m-lt-TELLING.false c.together.ensures
-

@@ -1,7 +1,6 @@
 -- `judge_check` meets its contract: SIZE where a size is wrong; else what the tables hold decides. Assumes nothing.
 use mathlib.Core.Path.{sym, ◌∙◌}
 use mathlib.Core.List.{[], ◌∷◌}
-use borrow.Author.Rules.{rules}
 use Rattle.model.specs.Net.{net_of}
 use Rattle.model.specs.Rules.{kind_rule, wire_rule, check_sizes, check_rules}
 use Rattle.basis.proofs.Fitting.{check_sized}
@@ -27,4 +26,3 @@ returns c =
     let a = c.args in
     let net = net_of a.kinds.now a.types.now a.gates.now a.sources.now a.drains.now in
     size_kept (check_sizes net) (kind_rule a.kinds.now ∷ wire_rule net ∷ []) _ c.wrong_check_sizes.ensures _ c.if-wrong_check_sizes.false c.judge_tables.ensures
-

@@ -1,7 +1,6 @@
 -- `judge_reset` meets its contract: SIZE where a size is wrong; else the kinds decide. Assumes nothing.
 use mathlib.Core.Path.{sym, ◌∙◌}
 use mathlib.Core.List.{[], ◌∷◌}
-use borrow.Author.Rules.{rules}
 use Rattle.model.specs.Rules.{kind_rule, reset_sizes, reset_rules}
 use Rattle.basis.proofs.Fitting.{reset_sized}
 use Rattle.basis.proofs.Judging.{size_broken, size_kept}
@@ -23,4 +22,3 @@ unfolding reset_rules
 returns c =
     let a = c.args in
     size_kept (reset_sizes a.kinds.now a.states.now) (kind_rule a.kinds.now ∷ []) _ c.wrong_reset_sizes.ensures _ c.if-wrong_reset_sizes.false c.judge_kinds.ensures
-

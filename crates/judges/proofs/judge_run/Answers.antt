@@ -1,6 +1,5 @@
 -- `judge_run` meets its contract: a refusal of tables or states stands; else the search over the changes decides. Assumes nothing.
 use mathlib.Core.List.{[], ◌∷◌}
-use borrow.Author.Rules.{rules}
 use Rattle.model.specs.Net.{net_of}
 use Rattle.model.specs.Run.{changes_of}
 use Rattle.model.specs.Rules.{kind_rule, wire_rule, state_rule, change_rule, change_tests, run_rules}
@@ -32,4 +31,3 @@ returns-else-e-named c =
     let ch = changes_of a.named.now a.values.now in
     accepted_first (kind_rule a.kinds.now ∷ wire_rule net ∷ state_rule a.states.now ∷ []) (change_rule net ch ∷ []) _ c.judge_contents-verdict.ensures _ c.in-Accepted.is
     (rule_kept (change_rule net ch) _ c.first_wrong_change-e.ensures c.if-e-named.false)
-

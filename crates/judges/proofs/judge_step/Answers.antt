@@ -1,7 +1,6 @@
 -- `judge_step` meets its contract: SIZE where a size is wrong; else what tables and states hold decides. Assumes nothing.
 use mathlib.Core.Path.{sym, ◌∙◌}
 use mathlib.Core.List.{[], ◌∷◌}
-use borrow.Author.Rules.{rules}
 use Rattle.model.specs.Net.{net_of}
 use Rattle.model.specs.Rules.{kind_rule, wire_rule, state_rule, step_sizes, step_rules}
 use Rattle.basis.proofs.Fitting.{step_sized}
@@ -30,4 +29,3 @@ returns c =
     let net = net_of a.kinds.now a.types.now a.gates.now a.sources.now a.drains.now in
     let s = a.states.now in
     size_kept (step_sizes net s a.work.now) (kind_rule a.kinds.now ∷ wire_rule net ∷ state_rule s ∷ []) _ c.wrong_step_sizes.ensures _ c.if-wrong_step_sizes.false c.judge_contents.ensures
-

@@ -1,6 +1,5 @@
 -- `judge_ternary` meets its contract: SIZE, then what tables, states and changes hold. Assumes nothing.
 use mathlib.Core.Path.{sym, ◌∙◌}
-use borrow.Author.Rules.{rules}
 use Rattle.model.specs.Net.{net_of}
 use Rattle.model.specs.Run.{changes_of}
 use Rattle.model.specs.Rules.{run_sizes, run_rules, ternary_rules}
@@ -35,4 +34,3 @@ returns c =
     let ch = changes_of a.named.now a.values.now in
     let s = a.states.now in
     size_kept (run_sizes net s ch a.work.now) (run_rules net s ch) _ c.wrong_run_sizes.ensures _ c.if-wrong_run_sizes.false c.judge_run.ensures
-

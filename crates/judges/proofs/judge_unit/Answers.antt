@@ -1,7 +1,6 @@
 -- `judge_unit` meets its contract: SIZE, then LIMIT, then what tables, states and changes hold. Assumes nothing.
 use mathlib.Core.Path.{sym, ◌∙◌}
 use mathlib.Core.List.{◌∷◌}
-use borrow.Author.Rules.{rules}
 use Rattle.model.specs.Net.{net_of}
 use Rattle.model.specs.Run.{changes_of}
 use Rattle.model.specs.Rules.{limit_rule, run_sizes, run_rules, unit_rules}
@@ -45,4 +44,3 @@ returns c =
     let ch = changes_of a.named.now a.values.now in
     let s = a.states.now in
     size_kept (run_sizes net s ch a.work.now) (limit_rule a.limit ∷ run_rules net s ch) _ c.wrong_run_sizes.ensures _ c.if-wrong_run_sizes.false (limit_kept a.limit (run_rules net s ch) c.if-limit-gt-HIGHEST_LIMIT.false _ c.judge_run.ensures)
-

@@ -1,11 +1,7 @@
 -- `layout::begin_sources` meets its contract: each node passed has its cell, the others as they came. Assumes nothing.
 use Prim.Native.Nat.{◌-◌, ◌≤◌}
-use native.Mathlib.Nat.{le_antisymm}
-use native.Mathlib.Omega.{arith}
-use mathlib.Core.Path.{◌≡◌, refl}
-use lib.ListN.{length, length-set}
-use borrow.Author.Rules.{rules}
-use Rattle.basis.proofs.Cells.{written_none, written_more, written_end}
+use mathlib.Core.Path.{◌≡◌}
+use lib.ListN.{length}
 use Rattle.basis.specs.Cells.{Written}
 use Rattle.layout.specs.Look.{source_at}
 use Rattle.layout.proofs.begin_sources.Given as goal

@@ -1,17 +1,14 @@
 -- `layout::lay` meets its contract: by how the transistor stands. Assumes nothing.
 -- not open, where the test says so
 use Prim.Native.Nat.{ℕ}
-use mathlib.Core.Path.{◌≡◌, refl, sym, ap, ◌∙◌}
+use mathlib.Core.Path.{◌≡◌, sym, ap, ◌∙◌}
 use mathlib.Core.Bool.{Bool, true, false, not, ◌&&◌, not-not}
 use mathlib.Core.List.{List}
-use borrow.Author.Rules.{rules}
-use mir.Facts.{Fits-16_64}
 use Rattle.model.specs.Places.{at}
 use Rattle.model.specs.Net.{Net, stand_at}
 use Rattle.model.specs.Ways.{choose}
 use Rattle.layout.specs.Layout.{doubtful}
-use Rattle.layout.specs.Look.{LaidOne, LaidNext, off, on}
-use Rattle.layout.proofs.Looks.{seated, gated}
+use Rattle.layout.specs.Look.{LaidOne, LaidNext, on}
 use Rattle.layout.proofs.lay.Goals as goal
 
 turned : (x : Bool) {r : Bool} → r ≡ not x → x ≡ not r
@@ -29,4 +26,3 @@ returns-then-not-is_open c = next-on
     c.is_open.ensures c.if-not-is_open.true
     c.is_unknown-unsure.ensures
     c.lay_one.ensures
-

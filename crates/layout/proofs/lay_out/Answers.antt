@@ -1,10 +1,6 @@
 -- `layout::lay_out` meets its contract: one transistor after the other. Assumes nothing.
-use Prim.Native.Nat.{◌-◌}
 use native.Mathlib.Omega.{arith}
-use lib.ListN.{length}
-use borrow.Author.Rules.{rules}
-use Rattle.model.specs.Net.{net_of}
-use Rattle.layout.proofs.Looks.{Laying, laid_none, laying_none, laying_more, laying_end}
+use Rattle.layout.proofs.Looks.{laid_none, laying_none, laying_more, laying_end}
 use Rattle.layout.proofs.lay_out.Goals as goal
 
 pub loop-t-init : goal.loop-t-init
@@ -21,4 +17,3 @@ returns c = laying_end
     c.loop-t-test.false
     (laid_none c.zero.ensures c.begin_sources.ensures c.zero-2.ensures)
     c.loop-t.invariant
-

@@ -1,10 +1,8 @@
 -- `layout::lay_out` meets its contract: one transistor after the other. Assumes nothing.
 use Prim.Native.Nat.{◌-◌}
-use native.Mathlib.Omega.{arith}
 use lib.ListN.{length}
-use borrow.Author.Rules.{rules}
 use Rattle.model.specs.Net.{net_of}
-use Rattle.layout.proofs.Looks.{Laying, laid_none, laying_none, laying_more, laying_end}
+use Rattle.layout.proofs.Looks.{Laying}
 use Rattle.layout.proofs.lay_out.Given as goal
 
 abbrev pub invariant-loop-t : goal.invariant-loop-t

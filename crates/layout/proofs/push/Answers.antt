@@ -1,10 +1,6 @@
 -- `layout::push` meets its contract: two stores. Assumes nothing.
-use native.Mathlib.Omega.{arith}
-use lib.ListN.{length-set}
-use borrow.Author.Rules.{rules}
 use Rattle.layout.proofs.Lists.{pushed_is}
 use Rattle.layout.proofs.push.Goals as goal
 
 pub returns : goal.returns
 returns c = pushed_is _ _ _ _ _ _ c.entry_of.ensures
-

@@ -1,8 +1,6 @@
 -- `layout::source_at` meets its contract: by the node's kind. Assumes nothing.
 use native.Mathlib.Omega.{arith}
-use borrow.Author.Rules.{rules}
 use mathlib.Core.Path.{sym, ◌∙◌}
-use mathlib.Core.Logic.{⊎_elim}
 use Rattle.layout.proofs.Telling.{mark_limit}
 use Rattle.layout.proofs.Begun.{source_input, source_pullup, source_normal}
 use Rattle.layout.proofs.source_at.Goals as goal
@@ -18,7 +16,6 @@ pub returns : goal.returns
 returns c =
     let inside = sym c.is_input.ensures ∙ c.if-is_input.false in
     elim c.if-kind-eq-PULLUP.branch [
-        then-kind-eq-PULLUP w ↦ w.inner-is ∙ source_pullup _ _ _ inside w.if-kind-eq-PULLUP.true
-        | else-kind-eq-PULLUP w ↦ w.inner-is ∙ source_normal _ _ _ _ inside w.if-kind-eq-PULLUP.false c.mark_of-stored.ensures
+      | then-kind-eq-PULLUP w ↦ w.inner-is ∙ source_pullup _ _ _ inside w.if-kind-eq-PULLUP.true
+      | else-kind-eq-PULLUP w ↦ w.inner-is ∙ source_normal _ _ _ _ inside w.if-kind-eq-PULLUP.false c.mark_of-stored.ensures
     ]
-

@@ -1,17 +1,8 @@
 -- `runs::settle` meets its contract: what is left of the steps is what is left of the definition. Assumes nothing.
-use Prim.Native.Nat.{◌-◌, ◌≤◌}
-use native.Mathlib.Nat.{sub-zero}
 use native.Mathlib.Omega.{arith}
-use mathlib.Core.Path.{◌≡◌, refl, ◌∙◌}
-use mathlib.Core.Logic.{inl, inr, ⊎_elim}
-use lib.ListN.{length}
-use borrow.Author.Rules.{rules}
+use mathlib.Core.Path.{◌∙◌}
+use mathlib.Core.Logic.{inl, inr}
 use borrow.Author.Tests.{eq-eqb, ne_eqb}
-use Rattle.model.specs.Net.{step, net_of}
-use Rattle.model.specs.Run.{settle}
-use Rattle.model.specs.Rules.{cells}
-use Rattle.basis.proofs.Acceptance.{checked_with}
-use Rattle.basis.specs.Cells.{Spared}
 use Rattle.basis.proofs.Steps.{one_sized, stops, goes}
 use Rattle.runs.proofs.settle.Goals as goal
 use Rattle.runs.proofs.settle.Goals.{then-ends-via-then-ends, then-ends-via-else-ends+then-count-limit}
@@ -22,8 +13,8 @@ returns-then-ends c =
     let turn = c.loop-limit in
     stops c.evaluate.ensures (turn.invariant.1 ∙ start.requires.0.states) (one_sized _) c.first_changed-place.ensures start.args.limit turn.invariant.3 turn.invariant.4
     (elim c.then-ends.branch [
-        then-ends-via-then-ends w ↦ inl (eq-eqb _ _ w.if-ends.true)
-        | then-ends-via-else-ends+then-count-limit w ↦ inr w.if-count-limit.true
+      | then-ends-via-then-ends w ↦ inl (eq-eqb _ _ w.if-ends.true)
+      | then-ends-via-else-ends+then-count-limit w ↦ inr w.if-count-limit.true
     ])
 
 pub loop-limit-preserved : goal.loop-limit-preserved
@@ -39,4 +30,3 @@ loop-limit-preserved c =
       goes after-evaluate.ensures (turn.invariant.1 ∙ start.requires.0.states) (one_sized _) c.first_changed-place.ensures start.args.limit turn.invariant.3 (ne_eqb _ _ c.if-ends.false) (omega arith) stored.ensures,
       λ k l. after-evaluate.ensures.after k l ∙ turn.invariant.4 k l,
     )
-

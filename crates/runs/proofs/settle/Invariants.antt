@@ -1,18 +1,11 @@
 -- `runs::settle` meets its contract: what is left of the steps is what is left of the definition. Assumes nothing.
 use Prim.Native.Nat.{◌-◌, ◌≤◌}
-use native.Mathlib.Nat.{sub-zero}
-use native.Mathlib.Omega.{arith}
-use mathlib.Core.Path.{◌≡◌, refl, ◌∙◌}
-use mathlib.Core.Logic.{inl, inr, ⊎_elim}
+use mathlib.Core.Path.{◌≡◌}
 use lib.ListN.{length}
-use borrow.Author.Rules.{rules}
-use borrow.Author.Tests.{eqb-true, eqb-false}
 use Rattle.model.specs.Net.{step, net_of}
 use Rattle.model.specs.Run.{settle}
 use Rattle.model.specs.Rules.{cells}
-use Rattle.basis.proofs.Acceptance.{checked_with}
 use Rattle.basis.specs.Cells.{Spared}
-use Rattle.basis.proofs.Steps.{one_sized, stops, goes}
 use Rattle.runs.proofs.settle.Given as goal
 
 abbrev pub invariant-loop-limit : goal.invariant-loop-limit

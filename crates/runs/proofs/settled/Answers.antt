@@ -1,5 +1,4 @@
 -- `runs::settled` meets its contract: no node is changed. Assumes nothing.
-use borrow.Author.Rules.{rules}
 use Rattle.basis.proofs.Steps.{one_sized, settled_test}
 use Rattle.runs.proofs.settled.Goals as goal
 
@@ -8,4 +7,3 @@ returns c =
     let start = c in
     let evaluated = c.evaluate.ensures in
     record { tells = settled_test evaluated start.requires.states (one_sized _) c.first_changed.ensures; spared = evaluated.after }
-

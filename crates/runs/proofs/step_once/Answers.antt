@@ -1,7 +1,5 @@
 -- `runs::step_once` meets its contract: the evaluated step takes effect. Assumes nothing.
-use native.Mathlib.Omega.{arith}
 use mathlib.Core.Path.{◌∙◌}
-use borrow.Author.Rules.{rules}
 use Rattle.basis.proofs.Steps.{one_sized, evaluated_place, evaluated_count, evaluated_states}
 use Rattle.runs.proofs.step_once.Goals as goal
 
@@ -15,4 +13,3 @@ returns c =
       states = c.store.ensures ∙ evaluated_states evaluated start.requires.states (one_sized _);
       spared = evaluated.after;
     }
-

@@ -1,9 +1,6 @@
 -- `runs::ternary_core` meets its contract: steps from the raised states, and from their end with the changes entered. Assumes nothing.
 use native.Mathlib.Omega.{arith}
-use mathlib.Core.Path.{refl}
-use borrow.Author.Rules.{rules}
 use Rattle.laws.proofs.RuleOne.{stepper}
-use Rattle.basis.proofs.Acceptance.{checked_with, named_of}
 use Rattle.basis.proofs.Runs.{halved}
 use Rattle.runs.proofs.ternary_core.Goals as goal
 
@@ -15,4 +12,3 @@ returns c =
     let after-enter = c.enter in
     let after-settle2 = c.settle-down in
     halved (stepper _) _ _ _ start.requires.1 start.requires.2 start.requires.0.states (omega (arith, after-settle.auto, after-raise-changed.auto)) after-raise-changed.ensures after-settle.ensures after-enter.ensures after-settle2.ensures
-

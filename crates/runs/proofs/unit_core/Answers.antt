@@ -1,12 +1,6 @@
 -- `runs::unit_core` meets its contract: steps from the states with the changes entered. Assumes nothing.
-use native.Mathlib.Omega.{arith}
-use mathlib.Core.Path.{refl}
-use borrow.Author.Rules.{rules}
-use Rattle.basis.proofs.Acceptance.{checked_with}
-use Rattle.basis.proofs.Acceptance.{named-at}
-use Rattle.basis.proofs.Runs.{limit_high, unit_ended}
+use Rattle.basis.proofs.Runs.{unit_ended}
 use Rattle.runs.proofs.unit_core.Goals as goal
 
 pub returns : goal.returns
 returns c = unit_ended _ _ _ _ c.enter.ensures c.limit_of.ensures c.settle.ensures
-

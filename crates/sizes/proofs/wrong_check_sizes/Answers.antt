@@ -1,5 +1,4 @@
 -- `wrong_check_sizes` meets its contract: the nodes' sizes, then the transistors'. Assumes nothing.
-use borrow.Author.Rules.{rules}
 use Rattle.model.specs.Net.{net_of}
 use Rattle.model.specs.Rules.{node_sizes, wire_sizes, check_sizes}
 use Rattle.basis.proofs.Fitting.{passed_first, failed_first}
@@ -18,4 +17,3 @@ returns c =
     let a = c.args in
     let net = net_of a.kinds.now a.types.now a.gates.now a.sources.now a.drains.now in
     failed_first (node_sizes a.kinds.now) (wire_sizes net) _ c.wrong_node_sizes.ensures _ c.if-wrong_node_sizes.false c.wrong_wire_sizes.ensures
-

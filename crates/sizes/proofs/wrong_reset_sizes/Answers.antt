@@ -1,7 +1,6 @@
 -- `wrong_reset_sizes` meets its contract: the nodes' sizes, then the states'. Assumes nothing.
 use mathlib.Core.Path.{sym}
 use mathlib.Core.Bool.{or-false}
-use borrow.Author.Rules.{rules}
 use Rattle.model.specs.Rules.{node_sizes, state_sizes, reset_sizes}
 use Rattle.basis.proofs.Fitting.{passed_first, failed_first}
 use Rattle.sizes.proofs.wrong_reset_sizes.Goals as goal
@@ -17,4 +16,3 @@ unfolding reset_sizes
 returns c =
     let a = c.args in
     failed_first (node_sizes a.kinds.now) (state_sizes a.kinds.now a.states.now) _ c.wrong_node_sizes.ensures _ c.if-wrong_node_sizes.false (sym (or-false _))
-

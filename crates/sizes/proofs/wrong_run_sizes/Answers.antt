@@ -1,5 +1,4 @@
 -- `wrong_run_sizes` meets its contract: the sizes that a step needs, then the changes'. Assumes nothing.
-use borrow.Author.Rules.{rules}
 use Rattle.model.specs.Net.{net_of}
 use Rattle.model.specs.Run.{changes_of}
 use Rattle.model.specs.Rules.{change_sizes, step_sizes, run_sizes}
@@ -21,4 +20,3 @@ returns c =
     let net = net_of a.kinds.now a.types.now a.gates.now a.sources.now a.drains.now in
     let ch = changes_of a.named.now a.values.now in
     failed_first (step_sizes net a.states.now a.work.now) (change_sizes ch) _ c.wrong_step_sizes.ensures _ c.if-wrong_step_sizes.false c.wrong_change_sizes.ensures
-

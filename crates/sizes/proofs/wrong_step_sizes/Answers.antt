@@ -2,7 +2,6 @@
 use mathlib.Core.Path.{sym, ◌∙◌}
 use mathlib.Core.Bool.{or-false}
 use mathlib.Core.List.{[], ◌++◌}
-use borrow.Author.Rules.{rules}
 use Rattle.model.specs.Net.{net_of}
 use Rattle.model.specs.Net.{net_of}
 use Rattle.model.specs.Rules.{wire_sizes, work_sizes, reset_sizes, step_sizes}
@@ -37,4 +36,3 @@ returns c =
     failed_first (reset_sizes a.kinds.now a.states.now) (wire_sizes net ++ work_sizes net a.work.now) _ c.wrong_reset_sizes.ensures _ c.if-wrong_reset_sizes.false
     (failed_first (wire_sizes net) (work_sizes net a.work.now) _ c.wrong_wire_sizes.ensures _ c.if-wrong_wire_sizes.false
     (rw c.cells_for.ensures (sym (or-false _))))
-

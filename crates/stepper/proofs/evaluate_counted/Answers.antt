@@ -1,6 +1,5 @@
 -- `stepper::evaluate_counted` meets its contract: the joined sets begin both tables, which are then filled, and decide the step. Assumes nothing.
 use native.Mathlib.Omega.{arith}
-use borrow.Author.Rules.{rules}
 use mathlib.Core.List.{[]}
 use Rattle.model.specs.Net.{net_of}
 use Rattle.layout.specs.Layout.{wires}
@@ -47,4 +46,3 @@ returns c =
     let A = c.fill-first.ensures.0 G.listed G.unsure (fillable0 net s start.requires L P (omega (arith, c.part_all-parts.auto, c.lay_out.auto))) in
     let B = c.fill-second.ensures.0 G.listed G.unsure (fillable1 net s start.requires L P A (omega (arith, c.fill-first.auto, c.part_all-parts.auto, c.lay_out.auto))) in
     (evaluated net s start.requires L P A B c.finish.ensures.0 c.finish.ensures.1, omega (arith, c.part_all-parts.ensures.1, c.fill-first.ensures.1, c.fill-second.ensures.1, start.requires.sources))
-

@@ -1,6 +1,5 @@
 -- `stepper::fill` meets its contract: strengths spread among the kept by their list, or among all. Assumes nothing.
 use native.Mathlib.Omega.{arith}
-use borrow.Author.Rules.{rules}
 use Rattle.stepper.proofs.Fills.{ready_all, small_all, full_all, ready_kept, small_kept, full_kept}
 use Rattle.stepper.proofs.fill.Goals as goal
 
@@ -15,4 +14,3 @@ spread_all-requires-2 c = (c.requires.1.0, c.requires.1.1, ready_all c.requires.
 
 pub returns : goal.returns
 returns c = (λ listed unsure z. full_all z (λ l. absurd (omega (arith, c.if-kept-n.false))) (c.spread_all-2.ensures.0 listed unsure (ready_all z)), c.spread_all-2.ensures.1)
-

@@ -1,14 +1,10 @@
 -- `stepper::finish` meets its contract: a node's cells are read before its state is written over the first of them. Assumes nothing.
-use borrow.Author.Rules.{rules}
-use native.Mathlib.Omega.{arith}
-use Prim.Native.Nat.{◌+◌, ◌-◌, ◌≤◌}
-use native.Mathlib.Nat.{le_antisymm}
-use mathlib.Core.Path.{◌≡◌, refl}
-use lib.ListN.{length, length-set}
+use Prim.Native.Nat.{◌-◌, ◌≤◌}
+use mathlib.Core.Path.{◌≡◌}
+use lib.ListN.{length}
 use Rattle.basis.specs.Cells.{Written, Bytes}
 use Rattle.model.specs.Net.{alone}
 use Rattle.stepper.specs.Step.{next}
-use Rattle.basis.proofs.Cells.{written_none, written_more, written_end, bytes_more}
 use Rattle.stepper.proofs.finish.Given as goal
 
 abbrev pub invariant-loop-v : goal.invariant-loop-v

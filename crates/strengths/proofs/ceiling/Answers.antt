@@ -1,6 +1,4 @@
 -- `strengths::ceiling` meets its contract: by whether the transistor has a ceiling. Assumes nothing.
-use native.Mathlib.Omega.{arith}
-use borrow.Author.Rules.{rules}
 use Rattle.strengths.proofs.Visits.{ceiling_in, ceiling_past}
 use Rattle.strengths.proofs.ceiling.Goals as goal
 
@@ -9,4 +7,3 @@ returns-then-t-ceilings c = ceiling_in _ _ c.if-t-ceilings.true
 
 pub returns : goal.returns
 returns c = ceiling_past _ _ c.if-t-ceilings.false
-

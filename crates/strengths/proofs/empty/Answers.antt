@@ -1,12 +1,7 @@
 -- `strengths::empty` meets its contract: the nodes that were taken from the queue have nothing more to give. Assumes nothing.
-use Prim.Native.Nat.{◌-◌}
 use native.Mathlib.Omega.{arith}
-use mathlib.Core.Path.{◌≡◌, refl}
-use lib.ListN.{length}
-use mir.Facts.{Fits-16_64}
-use Rattle.branches.specs.Branch.{wires_by}
-use Rattle.strengths.specs.Level.{Waiting}
-use Rattle.strengths.proofs.Levels.{Emptying, empty_start, empty_few, empty_fannable, empty_visits, empty_next, empty_end}
+use mathlib.Core.Path.{refl}
+use Rattle.strengths.proofs.Levels.{empty_start, empty_few, empty_fannable, empty_visits, empty_next, empty_end}
 use Rattle.strengths.proofs.empty.Goals as goal
 
 pub loop-k-init : goal.loop-k-init
@@ -38,4 +33,3 @@ loop-k-preserved c = (omega (arith, c.fan-r.auto, c.loop-k.invariant.0), λ z. e
 
 pub returns : goal.returns
 returns c = λ z. empty_end z (c.loop-k.invariant.1 z) c.loop-k-test.false
-

@@ -1,12 +1,10 @@
 -- `strengths::empty` meets its contract: the nodes that were taken from the queue have nothing more to give. Assumes nothing.
 use Prim.Native.Nat.{◌-◌}
-use native.Mathlib.Omega.{arith}
-use mathlib.Core.Path.{◌≡◌, refl}
+use mathlib.Core.Path.{◌≡◌}
 use lib.ListN.{length}
-use mir.Facts.{Fits-16_64}
 use Rattle.branches.specs.Branch.{wires_by}
 use Rattle.strengths.specs.Level.{Waiting}
-use Rattle.strengths.proofs.Levels.{Emptying, empty_start, empty_few, empty_fannable, empty_visits, empty_next, empty_end}
+use Rattle.strengths.proofs.Levels.{Emptying}
 use Rattle.strengths.proofs.empty.Given as goal
 
 abbrev pub invariant-loop-k : goal.invariant-loop-k

@@ -1,11 +1,7 @@
 -- `strengths::fan` meets its contract: the branches whose entries were passed have nothing more to bring. Assumes nothing.
 use native.Mathlib.Omega.{arith}
-use mathlib.Core.Path.{◌≡◌, refl}
-use lib.ListN.{length}
-use mir.Facts.{Fits-16_64}
-use Rattle.branches.specs.Branch.{wires_by}
-use Rattle.strengths.specs.Level.{Fannable}
-use Rattle.strengths.proofs.Fans.{Fanning, fannable_in, fan_start, fan_few, fan_held, fan_heads, fan_place, fan_turn, fan_less, fan_end, heads_two, heads_visitable}
+use mathlib.Core.Path.{refl}
+use Rattle.strengths.proofs.Fans.{fannable_in, fan_start, fan_few, fan_held, fan_heads, fan_place, fan_turn, fan_less, fan_end, heads_two, heads_visitable}
 use Rattle.strengths.proofs.fan.Goals as goal
 
 pub loop-e-init : goal.loop-e-init
@@ -34,4 +30,3 @@ loop-e-preserved c = (omega (arith, c.follow-tail.auto, c.loop-e.invariant.0), �
 
 pub returns : goal.returns
 returns c = λ z. fan_end z.held (c.loop-e.invariant.1 z) c.loop-e-test.false
-

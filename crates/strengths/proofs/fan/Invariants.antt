@@ -1,11 +1,9 @@
 -- `strengths::fan` meets its contract: the branches whose entries were passed have nothing more to bring. Assumes nothing.
-use native.Mathlib.Omega.{arith}
-use mathlib.Core.Path.{◌≡◌, refl}
+use mathlib.Core.Path.{◌≡◌}
 use lib.ListN.{length}
-use mir.Facts.{Fits-16_64}
 use Rattle.branches.specs.Branch.{wires_by}
 use Rattle.strengths.specs.Level.{Fannable}
-use Rattle.strengths.proofs.Fans.{Fanning, fannable_in, fan_start, fan_few, fan_held, fan_heads, fan_place, fan_turn, fan_less, fan_end, heads_two, heads_visitable}
+use Rattle.strengths.proofs.Fans.{Fanning}
 use Rattle.strengths.proofs.fan.Given as goal
 
 abbrev pub invariant-loop-e : goal.invariant-loop-e

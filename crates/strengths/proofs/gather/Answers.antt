@@ -1,11 +1,6 @@
 -- `strengths::gather` meets its contract: the queue holds those of the members passed whose cell is c. Assumes nothing.
-use Prim.Native.Nat.{◌-◌, ◌≤◌}
-use native.Mathlib.Nat.{le_antisymm}
 use native.Mathlib.Omega.{arith}
-use borrow.Author.Rules.{rules}
-use Rattle.strengths.specs.Level.{Gathered}
-use Rattle.strengths.proofs.Members.{member_room}
-use Rattle.strengths.proofs.Levels.{gathered_none, gathered_requires, gathered_more, gathered_end}
+use Rattle.strengths.proofs.Levels.{gathered_none, gathered_requires, gathered_more}
 use Rattle.strengths.proofs.gather.Goals as goal
 
 pub loop-k-init : goal.loop-k-init
@@ -16,4 +11,3 @@ note-tail-requires c = gathered_requires c.requires.1 c.loop-k.invariant.1 _ c.l
 
 pub loop-k-preserved : goal.loop-k-preserved
 loop-k-preserved c = (omega arith, gathered_more c.requires.1 c.loop-k.invariant.1 c.loop-k-test.true c.member-v.ensures c.note-tail.ensures)
-

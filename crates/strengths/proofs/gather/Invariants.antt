@@ -1,11 +1,6 @@
 -- `strengths::gather` meets its contract: the queue holds those of the members passed whose cell is c. Assumes nothing.
 use Prim.Native.Nat.{◌-◌, ◌≤◌}
-use native.Mathlib.Nat.{le_antisymm}
-use native.Mathlib.Omega.{arith}
-use borrow.Author.Rules.{rules}
 use Rattle.strengths.specs.Level.{Gathered}
-use Rattle.strengths.proofs.Members.{member_room}
-use Rattle.strengths.proofs.Levels.{gathered_none, gathered_requires, gathered_more, gathered_end}
 use Rattle.strengths.proofs.gather.Given as goal
 
 abbrev pub invariant-loop-k : goal.invariant-loop-k

@@ -1,7 +1,4 @@
 -- `strengths::member` meets its contract: by whether there is a list of members. Assumes nothing.
-use native.Mathlib.Omega.{arith}
-use mathlib.Core.Logic.{⊎_elim}
-use mir.Facts.{Fits-16_64}
 use Rattle.strengths.proofs.Members.{member_each, member_listed}
 use Rattle.strengths.proofs.member.Goals as goal
 
@@ -10,4 +7,3 @@ returns-then-order-eq0 c = member_each _ _ _ c.if-order-eq0.true
 
 pub returns : goal.returns
 returns c = member_listed _ _ _ c.if-order-eq0.false
-

@@ -1,5 +1,4 @@
 -- `strengths::note` meets its contract: by whether the cell is c. Assumes nothing.
-use borrow.Author.Rules.{rules}
 use Rattle.strengths.specs.Level.{other, noted}
 use Rattle.strengths.proofs.note.Goals as goal
 
@@ -8,4 +7,3 @@ returns-then-work-table c = noted c.if-work-table.true
 
 pub returns : goal.returns
 returns c = other c.if-work-table.false
-

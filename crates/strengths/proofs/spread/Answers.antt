@@ -1,5 +1,4 @@
 -- `strengths::spread` meets its contract: the nodes that have the strength are gathered, and then taken until none waits. Assumes nothing.
-use borrow.Author.Rules.{rules}
 use Rattle.strengths.proofs.Levels.{level_waiting, level_end}
 use Rattle.strengths.proofs.spread.Goals as goal
 
@@ -8,4 +7,3 @@ empty-r-requires c = (level_waiting c.requires.0 _ c.gather-end.ensures, c.requi
 
 pub returns : goal.returns
 returns c = λ z. level_end z _ c.gather-end.ensures (c.empty-r.ensures (level_waiting z _ c.gather-end.ensures))
-

@@ -1,12 +1,8 @@
 -- `strengths::spread_all` meets its contract: the strengths above s have spread. Assumes nothing.
-use Prim.Native.Nat.{ℕ, ◌-◌, ◌≤◌}
+use Prim.Native.Nat.{◌-◌}
 use native.Mathlib.Omega.{arith}
-use mathlib.Core.Path.{◌≡◌, refl}
-use mathlib.Core.Bool.{Bool}
-use lib.ListN.{length}
-use Rattle.branches.specs.Branch.{wires_by}
-use Rattle.strengths.specs.Spread.{Ready}
-use Rattle.strengths.proofs.Falls.{Falling, falling_start, falling_few, falling_ready, falling_next}
+use mathlib.Core.Path.{refl}
+use Rattle.strengths.proofs.Falls.{falling_start, falling_few, falling_ready, falling_next}
 use Rattle.strengths.proofs.spread_all.Goals as goal
 
 pub loop-s-init : goal.loop-s-init
@@ -23,4 +19,3 @@ loop-s-preserved c = (omega (arith, c.spread-visits.auto, c.loop-s.invariant.0),
 
 pub returns : goal.returns
 returns c = (λ listed unsure R. rw c.loop-s-test.false at (c.loop-s.invariant.1 listed unsure R).filled, falling_few c.requires.2 (c.loop-s.invariant.1 c.requires.0 c.requires.1 c.requires.2))
-

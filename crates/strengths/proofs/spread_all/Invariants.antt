@@ -1,12 +1,11 @@
 -- `strengths::spread_all` meets its contract: the strengths above s have spread. Assumes nothing.
-use Prim.Native.Nat.{ℕ, ◌-◌, ◌≤◌}
-use native.Mathlib.Omega.{arith}
-use mathlib.Core.Path.{◌≡◌, refl}
+use Prim.Native.Nat.{ℕ, ◌≤◌}
+use mathlib.Core.Path.{◌≡◌}
 use mathlib.Core.Bool.{Bool}
 use lib.ListN.{length}
 use Rattle.branches.specs.Branch.{wires_by}
 use Rattle.strengths.specs.Spread.{Ready}
-use Rattle.strengths.proofs.Falls.{Falling, falling_start, falling_few, falling_ready, falling_next}
+use Rattle.strengths.proofs.Falls.{Falling}
 use Rattle.strengths.proofs.spread_all.Given as goal
 
 abbrev pub invariant-loop-s : goal.invariant-loop-s

@@ -2,9 +2,7 @@
 use Prim.Native.Nat.{min}
 use native.Mathlib.Omega.{arith}
 use mathlib.Core.Path.{ap, ◌∙◌}
-use lib.ListN.{length-set}
-use borrow.Author.Rules.{rules}
-use Rattle.strengths.proofs.Visits.{visit_room, visit_still, visit_less, visit_whole}
+use Rattle.strengths.proofs.Visits.{visit_still, visit_less, visit_whole}
 use Rattle.strengths.proofs.visit.Goals as goal
 
 pub returns-then-x-work : goal.returns-then-x-work
@@ -15,4 +13,3 @@ returns-then-x-s c = visit_less _ _ c.end_of-b.ensures (c.lesser-x.ensures ∙ a
 
 pub returns : goal.returns
 returns c = visit_whole _ _ c.end_of-b.ensures (c.lesser-x.ensures ∙ ap (min _) c.ceiling.ensures) c.if-x-work.false (omega (arith, c.lesser-x.ensures)) c.if-x-s.false
-

@@ -1,16 +1,7 @@
 -- `first_above` meets its contract: no byte passed is above m. Assumes nothing.
-use Prim.Native.Nat.{ℕ, ◌≤◌, ◌-◌}
-use native.Mathlib.Omega.{arith}
-use mathlib.Core.Path.{◌≡◌}
-use mathlib.Core.Bool.{Bool, false}
-use mathlib.Core.List.{List}
-use borrow.Author.Count.{below_more}
-use borrow.Author.Rules.{rules}
-use borrow.Author.Tests.{lt-ltb, le-ltb}
+use borrow.Author.Tests.{lt-ltb}
 use lib.ListN.{length}
-use lib.Dec.{ltb}
-use Rattle.model.specs.Places.{at}
-use Rattle.basis.proofs.Finding.{NoneBelow, none_yet, first-at, first_none}
+use Rattle.basis.proofs.Finding.{first-at, first_none}
 use Rattle.tables.proofs.first_above.Invariants.{Above}
 use Rattle.tables.proofs.first_above.Goals as goal
 
@@ -21,4 +12,3 @@ pub returns : goal.returns
 returns c =
     let a = c.args in
     first_none (length a.s.now) (Above a.s.now a.m) _ c.loop-v.invariant.0 c.loop-v-test.false c.loop-v.invariant.1
-

@@ -1,16 +1,11 @@
 -- `first_above` meets its contract: no byte passed is above m. Assumes nothing.
 use Prim.Native.Nat.{ℕ, ◌≤◌, ◌-◌}
-use native.Mathlib.Omega.{arith}
-use mathlib.Core.Path.{◌≡◌}
-use mathlib.Core.Bool.{Bool, false}
+use mathlib.Core.Bool.{Bool}
 use mathlib.Core.List.{List}
-use borrow.Author.Count.{below_more}
-use borrow.Author.Rules.{rules}
-use borrow.Author.Tests.{lt-ltb, le-ltb}
 use lib.ListN.{length}
 use lib.Dec.{ltb}
 use Rattle.model.specs.Places.{at}
-use Rattle.basis.proofs.Finding.{NoneBelow, none_yet, first-at, first_none}
+use Rattle.basis.proofs.Finding.{NoneBelow}
 use Rattle.tables.proofs.first_above.Given as goal
 
 abbrev pub Above : List ℕ → ℕ → ℕ → Bool

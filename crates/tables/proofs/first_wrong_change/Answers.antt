@@ -1,17 +1,7 @@
 -- `first_wrong_change` meets its contract: no entry passed is wrong. Assumes nothing.
-use Prim.Native.Nat.{ℕ, ◌≤◌, ◌-◌}
-use native.Mathlib.Omega.{arith}
-use mathlib.Core.Path.{◌≡◌, sym, ◌∙◌}
-use mathlib.Core.Bool.{Bool, false}
-use mathlib.Core.List.{List, []}
-use borrow.Author.Count.{below_more}
-use borrow.Author.Rules.{rules}
+use mathlib.Core.Path.{sym, ◌∙◌}
 use lib.ListN.{length}
-use Rattle.model.specs.Places.{any}
-use Rattle.model.specs.Net.{net_of}
-use Rattle.model.specs.Run.{changes_of}
-use Rattle.model.specs.Rules.{change_tests}
-use Rattle.basis.proofs.Finding.{NoneBelow, none_yet, first-at, first_none}
+use Rattle.basis.proofs.Finding.{first-at, first_none}
 use Rattle.tables.proofs.first_wrong_change.Invariants.{Wrong}
 use Rattle.tables.proofs.first_wrong_change.Goals as goal
 
@@ -24,4 +14,3 @@ pub returns : goal.returns
 returns c =
     let a = c.args in
     first_none (length a.named.now) (Wrong a.kinds.now a.named.now a.values.now) _ c.loop-e.invariant.0 c.loop-e-test.false c.loop-e.invariant.1
-

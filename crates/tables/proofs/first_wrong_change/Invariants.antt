@@ -1,17 +1,13 @@
 -- `first_wrong_change` meets its contract: no entry passed is wrong. Assumes nothing.
 use Prim.Native.Nat.{ℕ, ◌≤◌, ◌-◌}
-use native.Mathlib.Omega.{arith}
-use mathlib.Core.Path.{◌≡◌, sym, ◌∙◌}
-use mathlib.Core.Bool.{Bool, false}
+use mathlib.Core.Bool.{Bool}
 use mathlib.Core.List.{List, []}
-use borrow.Author.Count.{below_more}
-use borrow.Author.Rules.{rules}
 use lib.ListN.{length}
 use Rattle.model.specs.Places.{any}
 use Rattle.model.specs.Net.{net_of}
 use Rattle.model.specs.Run.{changes_of}
 use Rattle.model.specs.Rules.{change_tests}
-use Rattle.basis.proofs.Finding.{NoneBelow, none_yet, first-at, first_none}
+use Rattle.basis.proofs.Finding.{NoneBelow}
 use Rattle.tables.proofs.first_wrong_change.Given as goal
 
 abbrev pub Wrong : List ℕ → List ℕ → List ℕ → ℕ → Bool

@@ -1,16 +1,9 @@
 -- `first_wrong_wire` meets its contract: no transistor passed is wrong. Assumes nothing.
-use Prim.Native.Nat.{ℕ, ◌≤◌, ◌-◌}
-use native.Mathlib.Omega.{arith}
-use mathlib.Core.Path.{◌≡◌, sym, ◌∙◌}
-use mathlib.Core.Bool.{Bool, false}
-use borrow.Author.Count.{below_more}
-use borrow.Author.Rules.{rules}
+use mathlib.Core.Path.{sym, ◌∙◌}
 use lib.ListN.{length}
-use Rattle.model.specs.Places.{any}
-use Rattle.model.specs.Net.{Net, net_of}
 use Rattle.model.specs.Net.{net_of}
-use Rattle.model.specs.Rules.{wire_tests}
-use Rattle.basis.proofs.Finding.{NoneBelow, none_yet, first-at, first_none}
+use Rattle.model.specs.Net.{net_of}
+use Rattle.basis.proofs.Finding.{first-at, first_none}
 use Rattle.tables.proofs.first_wrong_wire.Invariants.{Wrong}
 use Rattle.tables.proofs.first_wrong_wire.Goals as goal
 
@@ -25,4 +18,3 @@ returns c =
     let a = c.args in
     let net = net_of a.kinds.now a.types.now a.gates.now a.sources.now a.drains.now in
     first_none (length a.types.now) (Wrong net) _ c.loop-t.invariant.0 c.loop-t-test.false c.loop-t.invariant.1
-

@@ -1,16 +1,12 @@
 -- `first_wrong_wire` meets its contract: no transistor passed is wrong. Assumes nothing.
 use Prim.Native.Nat.{ℕ, ◌≤◌, ◌-◌}
-use native.Mathlib.Omega.{arith}
-use mathlib.Core.Path.{◌≡◌, sym, ◌∙◌}
-use mathlib.Core.Bool.{Bool, false}
-use borrow.Author.Count.{below_more}
-use borrow.Author.Rules.{rules}
+use mathlib.Core.Bool.{Bool}
 use lib.ListN.{length}
 use Rattle.model.specs.Places.{any}
 use Rattle.model.specs.Net.{Net, net_of}
 use Rattle.model.specs.Net.{net_of}
 use Rattle.model.specs.Rules.{wire_tests}
-use Rattle.basis.proofs.Finding.{NoneBelow, none_yet, first-at, first_none}
+use Rattle.basis.proofs.Finding.{NoneBelow}
 use Rattle.tables.proofs.first_wrong_wire.Given as goal
 
 abbrev pub Wrong : Net → ℕ → Bool

@@ -1,16 +1,9 @@
 -- `named_before` meets its contract: no entry passed names the node of the entry e. Assumes nothing.
-use Prim.Native.Nat.{ℕ, ◌≤◌, ◌-◌}
 use native.Mathlib.Omega.{arith}
-use mathlib.Core.Path.{◌≡◌, sym}
-use mathlib.Core.Bool.{Bool, false}
-use mathlib.Core.List.{List}
-use borrow.Author.Count.{below_more}
-use borrow.Author.Rules.{rules}
-use borrow.Author.Tests.{eq-eqb, ne_eqb}
-use lib.Dec.{eqb}
-use Rattle.model.specs.Places.{at}
+use mathlib.Core.Path.{sym}
+use borrow.Author.Tests.{eq-eqb}
 use Rattle.laws.proofs.Places.{some_of}
-use Rattle.basis.proofs.Finding.{NoneBelow, none_yet, some_none}
+use Rattle.basis.proofs.Finding.{some_none}
 use Rattle.tables.proofs.named_before.Invariants.{Same}
 use Rattle.tables.proofs.named_before.Goals as goal
 
@@ -23,4 +16,3 @@ pub returns : goal.returns
 returns c =
     let a = c.args in
     some_none a.e (Same a.named.now a.e) (λ q l. c.loop-k.invariant.1 q (omega arith))
-

@@ -1,7 +1,6 @@
 -- `wrong_change` meets its contract: each way out is the first of its tests that passes, and the last test decides. Assumes nothing.
 use mathlib.Core.Path.{sym}
 use mathlib.Core.Bool.{or-false}
-use borrow.Author.Rules.{rules}
 use borrow.Author.Tests.{lt-ltb, le-ltb}
 use Rattle.model.specs.Rules.{change_tests}
 use Rattle.tables.proofs.wrong_change.Goals as goal
@@ -21,4 +20,3 @@ returns-then-values-e-gt-HIGHEST_STATE c = rw (← c.wide-v.ensures, lt-ltb _ _ 
 pub returns : goal.returns
 unfolding change_tests
 returns c = rw (c.named_before.ensures, ← c.wide-v.ensures, lt-ltb _ _ c.if-v-kinds.false, ← c.is_input.ensures, c.if-not-is_input.false, le-ltb _ _ c.if-values-e-gt-HIGHEST_STATE.false) (sym (or-false _))
-

@@ -1,7 +1,6 @@
 -- `wrong_wire` meets its contract: each way out is the first of its tests that passes, and the last test decides. Assumes nothing.
 use native.Mathlib.Omega.{arith}
 use mathlib.Core.Bool.{or-false}
-use borrow.Author.Rules.{rules}
 use borrow.Author.Tests.{lt-ltb, le-ltb}
 use lib.ListN.{length}
 use Rattle.model.specs.Places.{at}
@@ -30,4 +29,3 @@ unfolding wire_tests
 returns c =
     let a = c.args in
     rw (le-ltb 2 (at a.types.now a.t) (omega arith), lt-ltb (at a.gates.now a.t) (length a.kinds.now) (omega arith), lt-ltb (at a.sources.now a.t) (length a.kinds.now) (omega arith), or-false, c.wide-3.ensures, leb-not)
-

@@ -1,6 +1,5 @@
 -- `reset` meets its contract: the verdict's refusal with the states as they came, else DONE with the rails live and all else at X. Assumes nothing.
 use mathlib.Core.Path.{sym, ◌∙◌}
-use borrow.Author.Rules.{rules}
 use Rattle.basis.proofs.Acceptance.{reset_level}
 use Rattle.twistdory.proofs.Given.{reset_refused, reset_accepted}
 use Rattle.twistdory.proofs.reset.Goals as goal
@@ -13,4 +12,3 @@ returns-in-Refused c = reset_refused _ _ c.in-Refused.is _ _ c.judge_reset.ensur
 
 pub returns-in-Accepted : goal.returns-in-Accepted
 returns-in-Accepted c = reset_accepted _ c.in-Accepted.is _ _ c.judge_reset.ensures _ _ c.done.ensures c.reset_states.ensures
-

@@ -1,0 +1,16 @@
+-- `opening_of` meets its contract: the size and the first byte decide. Assumes nothing.
+use mathlib.Core.Path.{refl}
+use Rattle.scanner.proofs.Opening.{opening_none, opening-one, opening_bar, opening_long}
+use Rattle.scanner.proofs.opening_of.Goals as goal
+
+pub returns-then-size-eq0 : goal.returns-then-size-eq0
+returns-then-size-eq0 c = opening_none _ _ c.if-size-eq0.true
+
+pub returns-then-size-eq1 : goal.returns-then-size-eq1
+returns-then-size-eq1 c = let b = c in opening-one _ _ b.requires b.if-size-eq0.false _ refl c.if-size-eq1.true _ c.opening_byte.ensures
+
+pub returns-then-b-eq124 : goal.returns-then-b-eq124
+returns-then-b-eq124 c = let b = c in opening_bar _ _ b.requires b.if-size-eq0.false _ refl c.if-b-eq124.true
+
+pub returns : goal.returns
+returns c = let b = c in opening_long _ _ b.requires b.if-size-eq0.false _ refl c.if-size-eq1.false c.if-b-eq124.false
