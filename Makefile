@@ -8,7 +8,7 @@ run: toolchain
 	@sh mk/prove.sh run cases
 
 test:
-	+@.ci/run
+	@.ci/run
 
 # The program that tries every choice, against the bench set and the samples; the one that reads texts, against those worked out by hand; and
 # the faults that they must notice.
