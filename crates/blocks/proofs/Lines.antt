@@ -5,7 +5,8 @@ use mathlib.Core.Bool.{not, cond}
 use mathlib.Core.List.{List, [], ◌∷◌, ◌++◌}
 use lib.ListN.{length, set}
 use lib.Dec.{eqb}
-use Rattle.model.specs.Places.{at, bytes}
+use Rattle.model.specs.Places.{at}
+use Rattle.text.specs.Bytes.{bytes}
 use Rattle.waves.specs.Dump.{each, code, decimal, letter, wire_name, wire_line, value_line, header, start_block, time_line, change_line, step_block}
 use Rattle.lettering.specs.Writing.{Fits, Wrote}
 use Rattle.lettering.proofs.Writes.{wrote_byte, wrote_as, wrote_then}

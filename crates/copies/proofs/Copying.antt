@@ -5,7 +5,8 @@ use mathlib.Core.Path.{◌≡◌, refl, sym, ap, ◌∙◌}
 use mathlib.Core.List.{List, ◌++◌, append-nil}
 use lib.ListN.{length, take, drop, set, length-set}
 use lib.Seq.{length-take-le, take-suc, take-length, drop-cons, drop-length, append_snoc, set_at}
-use Rattle.model.specs.Places.{at, over}
+use Rattle.model.specs.Places.{at}
+use Rattle.text.specs.Reading.{over}
 
 -- i of n entries of `from` stand in `to`, which was `before`
 pub record Copied (n : ℕ) (from before : List ℕ) (i : ℕ) (to : List ℕ) : Type 0 where

@@ -1,6 +1,6 @@
 // The front of one table copied over the front of another.
 ghost use Rattle.std.specs.Prelude.{◌≤◌, ◌≡◌, length, take};
-ghost use Rattle.model.specs.Places.{over};
+ghost use Rattle.text.specs.Reading.{over};
 
 // The first n bytes of one table become those of another.
 pub fn copy_bytes(to: &mut [u8], from: &[u8], n: usize)

@@ -14,7 +14,7 @@ use Rattle.model.specs.Bounds.{most_nodes, highest_limit}
 use Rattle.model.specs.Places.{tab, iter, at}
 use Rattle.model.specs.Run.{Ran, settle}
 use Rattle.model.specs.Entries.{first_changed}
-use Rattle.laws.proofs.Descent.{iter-suc}
+use Rattle.wavelaws.proofs.Iterating.{iter_suc}
 use Rattle.laws.proofs.Settle.{settle_says}
 use Rattle.basis.specs.Cells.{Spared}
 use Rattle.basis.specs.Steps.{Stepping, Evaluated, Ended}
@@ -64,7 +64,7 @@ module _ (by : Stepping) (limit : ℕ) (s₀ w₀ : List ℕ) where
         low = omega arith;
         states_long = l ∙ R.states_long;
         work_long = m ∙ R.work_long;
-        there = e ∙ evaluated_states E fit sized ∙ ap by.next R.there ∙ iter-suc by.next count s₀ ∙ ap (λ (n : ℕ). iter n by.next s₀) (sym (add-one count));
+        there = e ∙ evaluated_states E fit sized ∙ ap by.next R.there ∙ iter_suc by.next count s₀ ∙ ap (λ (n : ℕ). iter n by.next s₀) (sym (add-one count));
         to_go = goes E fit sized first limit R.to_go moves below e;
         spared = λ k b. E.after k b ∙ R.spared k b;
       }

@@ -6,7 +6,8 @@ use mathlib.Core.Bool.{Bool, true, false, cond}
 use mathlib.Core.List.{List, [], ◌∷◌, ◌++◌}
 use lib.ListN.{length, length-append}
 use Rattle.model.specs.Bounds.{most_nodes, highest_limit}
-use Rattle.model.specs.Places.{iter, at, bytes}
+use Rattle.model.specs.Places.{iter, at}
+use Rattle.text.specs.Bytes.{bytes}
 use Rattle.model.specs.Run.{changed}
 use Rattle.waves.specs.Dump.{each, code, decimal, wire_name, wire_line, value_line, header, start_block, time_line, change_line, step_block, block_after, dump_of, most_dump}
 use Rattle.wavelaws.proofs.Rows.{each_few}

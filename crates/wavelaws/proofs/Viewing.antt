@@ -10,11 +10,12 @@ use lib.ListN.{length, take, drop, set, drop_of_length-le}
 use lib.Seq.{length-take-le, take_all, drop-cons, set-get_or, get_or_at, paste-suc}
 use lib.Dec.{ltb, eqb}
 use borrow.Author.Tests.{le-ltb, not-false, eqb-true}
-use Rattle.model.specs.Places.{tab, iter, at, same, bytes}
+use Rattle.model.specs.Places.{tab, iter, at, same}
+use Rattle.text.specs.Bytes.{bytes}
 use Rattle.model.specs.Run.{changed}
 use Rattle.laws.proofs.Places.{length-tab, tab_more}
 use Rattle.laws.proofs.Settle.{same_true, same_refl}
-use Rattle.laws.proofs.Descent.{iter-suc}
+use Rattle.wavelaws.proofs.Iterating.{iter_suc}
 use Rattle.waves.specs.Dump.{each, digits, code, decimal, letter, wire_name, wire_line, value_line, header, start_block, time_line, change_line, step_block, block_after, dump_of}
 use Rattle.waves.specs.Viewer.{longer, words, number_of, Shot, shot, values, Moment, before, since, View, nothing, shots, find, declared, valued, read_all, reading_of, reading}
 use Rattle.wavelaws.proofs.Numerals.{number-decimal, code_distinct, code-some}
@@ -203,7 +204,7 @@ module _ (f : List ℕ → List ℕ) (s : List ℕ) (sized : (k : ℕ) → lengt
   block_read : (k : ℕ) → Takes (stage k) (block_after f s k) (stage (suc k))
   unfolding block_after
   block_read k =
-      rw (iter-suc f k s, tab_more k after)
+      rw (iter_suc f k s, tab_more k after)
       (step-read (length s) (iter k f s) (iter (suc k) f s) (sized k) (sized (suc k)) (known (suc k)) k (suc k) (tab k after))
 
   all_read : (count : ℕ) → Takes nothing (dump_of f s count) (stage count)

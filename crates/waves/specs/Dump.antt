@@ -1,7 +1,8 @@
 -- The value change dump of a run (IEEE 1364), byte for byte: a wire for each node, all states at time 0, then a time for each step with the nodes that it
 -- changed. Assumes nothing.
 use Rattle.std.specs.Prelude.{ℕ, zero, suc, ◌+◌, ◌*◌, ◌/◌, ◌%◌, Bool, true, false, cond, List, [], ◌∷◌, ◌++◌, map, reverse, length, ltb}
-use Rattle.model.specs.Places.{iter, at, bytes}
+use Rattle.model.specs.Places.{iter, at}
+use Rattle.text.specs.Bytes.{bytes}
 use Rattle.model.specs.Run.{Changes, entered, changed, unit_steps}
 
 -- the texts f 0, f 1 .. f (n - 1), one after the other

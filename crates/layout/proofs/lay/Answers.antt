@@ -1,5 +1,4 @@
 -- `layout::lay` meets its contract: by how the transistor stands. Assumes nothing.
--- not open, where the test says so
 use Prim.Native.Nat.{ℕ}
 use mathlib.Core.Path.{◌≡◌, sym, ap, ◌∙◌}
 use mathlib.Core.Bool.{Bool, true, false, not, ◌&&◌, not-not}
@@ -11,6 +10,7 @@ use Rattle.layout.specs.Layout.{doubtful}
 use Rattle.layout.specs.Look.{LaidOne, LaidNext, on}
 use Rattle.layout.proofs.lay.Goals as goal
 
+-- not open, where the test says so
 turned : (x : Bool) {r : Bool} → r ≡ not x → x ≡ not r
 turned x e = sym (not-not x) ∙ sym (ap not e)
 
