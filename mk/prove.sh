@@ -19,10 +19,16 @@ prove() {
     echo $? >"$status"
 }
 
+tell() {
+    from=$(date +%s)
+    while read -r word rest; do
+        case $word in
+        crate) crate=${rest%%:*} ;;
+        logic=proved) to=$(date +%s) && echo "  $crate proved, $((to - from)) s" && from=$to ;;
+        esac
+    done
+}
+
 echo "proving $name and what it stands on; from nothing this takes some minutes" >&2
-{ prove | tee "$log" | awk '
-    function now(  seconds) { "date +%s" | getline seconds; close("date +%s"); return seconds }
-    BEGIN { from = now() }
-    /^crate / { crate = substr($2, 1, length($2) - 1) }
-    /^logic=proved/ { to = now(); print "  " crate " proved, " to - from " s"; fflush(); from = to }' >&2; } 3>&1
+{ prove | tee "$log" | tell >&2; } 3>&1
 [ "$(cat "$status")" = 0 ] || { tail -n 20 "$log" >&2; exit 1; }
