@@ -1,5 +1,7 @@
 // The lines and blocks of a dump, the header, time 0 and one step: how long they are, and written to an output that has room for them. What
 // writes answers the place after what it wrote.
+#![tactic(auto)]
+
 ghost use Rattle.std.specs.Prelude.{◌+◌, ◌≤◌, ◌<◌, ◌≡◌, not, cond, [], length, eqb};
 ghost use Rattle.model.specs.Bounds.{most_nodes, highest_limit};
 ghost use Rattle.model.specs.Places.{at};

@@ -1,4 +1,6 @@
 // The front of one table copied over the front of another.
+#![tactic(auto)]
+
 ghost use Rattle.std.specs.Prelude.{◌≤◌, ◌≡◌, length, take};
 ghost use Rattle.text.specs.Reading.{over};
 

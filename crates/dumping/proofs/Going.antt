@@ -4,13 +4,12 @@ use native.Mathlib.Nat.{sub-zero}
 use native.Mathlib.Omega.{arith}
 use native.Mathlib.Numerals.{add-one}
 use mathlib.Core.Path.{◌≡◌, refl, ap, ◌∙◌, sym}
-use mathlib.Core.Bool.{Bool, true, false, not, cond}
+use mathlib.Core.Bool.{true, false, not, cond}
 use mathlib.Core.Logic.{◌⊎◌, inl, inr}
 use mathlib.Core.List.{List, [], ◌++◌}
 use lib.ListN.{length}
 use lib.Dec.{eqb}
 use borrow.Author.Tests.{lt-ltb, le-ltb}
-use Rattle.model.specs.Bounds.{most_nodes, highest_limit}
 use Rattle.model.specs.Places.{tab, iter, at}
 use Rattle.model.specs.Run.{Ran, settle}
 use Rattle.model.specs.Entries.{first_changed}
@@ -23,7 +22,7 @@ use Rattle.waves.specs.Dump.{each, value_line, time_line, change_line, step_bloc
 use Rattle.wavelaws.proofs.Rows.{each_same, each-longer, each_fits}
 use Rattle.lettering.specs.Writing.{Fits, Wrote}
 use Rattle.lettering.proofs.Writes.{wrote_as, wrote_next}
-use Rattle.dumping.specs.Runs.{holds, blocks, Measured, Shown}
+use Rattle.dumping.specs.Runs.{holds, blocks, Shown}
 
 -- a run never counts less than it began with
 counts_on : (f : List ℕ → List ℕ) (fuel k : ℕ) (s : List ℕ) → k ≤ (settle f fuel k s).count

@@ -1,23 +1,22 @@
 -- Header, time 0 and the blocks of the steps are the dump of a unit run: measured, and written. Assumes nothing.
 use Prim.Native.Nat.{ℕ, ◌+◌, ◌-◌, ◌≤◌, ◌<◌}
-use native.Mathlib.Nat.{zero-add, sub-zero}
+use native.Mathlib.Nat.{sub-zero}
 use native.Mathlib.Omega.{arith}
 use mathlib.Core.Path.{◌≡◌, refl, ap, ◌∙◌, sym}
 use mathlib.Core.Bool.{Bool, true, false, not}
-use mathlib.Core.List.{List, ◌++◌}
+use mathlib.Core.List.{List}
 use lib.ListN.{length, take}
 use lib.Seq.{length-take-le}
 use lib.Dec.{ltb}
 use borrow.Author.Tests.{ltb-true, ltb-false, lt-ltb, le-ltb}
 use Rattle.model.specs.Run.{Ran, put, limit_of, settle, unit_steps, changes_of}
-use Rattle.basis.specs.Cells.{Spared}
-use Rattle.basis.specs.Steps.{Stepping, Ended}
+use Rattle.basis.specs.Steps.{Stepping}
 use Rattle.basis.proofs.Runs.{unit_ended}
 use Rattle.waves.specs.Dump.{header, start_block, dump_of, unit_dump}
 use Rattle.wavelaws.proofs.Lengths.{dump_length}
 use Rattle.lettering.specs.Writing.{Fits, Wrote}
 use Rattle.lettering.proofs.Writes.{wrote_as, wrote_then}
-use Rattle.dumping.specs.Runs.{holds, blocks, Measured, Shown}
+use Rattle.dumping.specs.Runs.{blocks, Measured, Shown}
 
 -- what is too long for the room is too long for what is left of it
 holds-rest : (room front rest : ℕ) → front ≤ room → ltb (room - front) rest ≡ ltb room (front + rest)

@@ -1,4 +1,6 @@
 // Unit runs whose dump is measured, or written as they go, on tables that were checked.
+#![tactic(auto)]
+
 ghost use Rattle.std.specs.Prelude.{◌≤◌, ◌≡◌, length};
 ghost use Rattle.model.specs.Bounds.{highest_limit};
 ghost use Rattle.model.specs.Net.{net_of, step};

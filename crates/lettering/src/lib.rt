@@ -1,5 +1,7 @@
 // Texts, codes and numbers of a dump, character by character: how long they are, and written to an output that has room for them. What writes
 // answers the place after what it wrote.
+#![tactic(auto)]
+
 ghost use Rattle.std.specs.Prelude.{◌≤◌, ◌<◌, ◌≡◌, length};
 ghost use Rattle.model.specs.Bounds.{most_nodes, highest_limit};
 ghost use Rattle.waves.specs.Dump.{code, decimal};

@@ -1,6 +1,6 @@
 -- The value change dump of a run (IEEE 1364), byte for byte: a wire for each node, all states at time 0, then a time for each step with the nodes that it
 -- changed. Assumes nothing.
-use Rattle.std.specs.Prelude.{ℕ, zero, suc, ◌+◌, ◌*◌, ◌/◌, ◌%◌, Bool, true, false, cond, List, [], ◌∷◌, ◌++◌, map, reverse, length, ltb}
+use Rattle.std.specs.Prelude.{ℕ, zero, suc, ◌+◌, ◌*◌, ◌/◌, ◌%◌, true, false, cond, List, [], ◌∷◌, ◌++◌, map, reverse, length, ltb}
 use Rattle.model.specs.Places.{iter, at}
 use Rattle.text.specs.Bytes.{bytes}
 use Rattle.model.specs.Run.{Changes, entered, changed, unit_steps}

@@ -1,6 +1,6 @@
 -- How a wave viewer reads a value change dump (IEEE 1364), from the text alone: words, wires as they are declared, times, and values that stay until they
 -- change. Assumes nothing.
-use Rattle.std.specs.Prelude.{ℕ, ◌+◌, ◌-◌, ◌*◌, Bool, true, false, cond, ◌||◌, List, [], ◌∷◌, ◌++◌, map, reverse, length, set, get_or, eqb, ltb}
+use Rattle.std.specs.Prelude.{ℕ, ◌+◌, ◌-◌, ◌*◌, cond, ◌||◌, List, [], ◌∷◌, ◌++◌, map, reverse, length, set, get_or, eqb, ltb}
 use Rattle.model.specs.Places.{any, same}
 use Rattle.text.specs.Bytes.{bytes}
 

@@ -1,8 +1,6 @@
 -- `copy_bytes` meets its contract: the front is copied, the rest is as it came. Assumes nothing.
-use borrow.Author.Rules.{rules}
-use native.Mathlib.Omega.{arith}
 use Prim.Native.Nat.{◌-◌}
-use Rattle.copies.proofs.Copying.{Copied, copied_none, copied_one, copied_all}
+use Rattle.copies.proofs.Copying.{Copied}
 use Rattle.copies.proofs.copy_bytes.Given as goal
 
 abbrev pub invariant-loop-i : goal.invariant-loop-i

@@ -1,10 +1,6 @@
 -- `copy_cells` meets its contract: the front is copied, the rest is as it came. Assumes nothing.
-use borrow.Author.Rules.{rules}
-use native.Mathlib.Omega.{arith}
-use Prim.Native.Nat.{◌-◌}
-use Rattle.copies.proofs.Copying.{Copied, copied_none, copied_one, copied_all}
+use Rattle.copies.proofs.Copying.{copied_all}
 use Rattle.copies.proofs.copy_cells.Goals as goal
 
 pub returns : goal.returns
 returns c = copied_all _ _ _ _ _ c.loop-i.invariant c.requires c.loop-i-test.false
-

@@ -1,0 +1,22 @@
+-- `put_step` meets its contract: the time's line, then the lines of the changed nodes. Assumes nothing.
+use Rattle.wavelaws.proofs.Lengths.{step-length}
+use Rattle.blocks.proofs.Lines.{wrote_step}
+use native.Mathlib.Omega.{arith}
+use Rattle.blocks.proofs.put_step.Goals as goal
+
+pub put_time-timed-requires : goal.put_time-timed-requires
+put_time-timed-requires c =
+    let start = c in
+    omega (arith, start.requires.2, step-length start.args.time start.args.states.now start.args.next.now)
+
+pub put_changes-requires : goal.put_changes-requires
+put_changes-requires c =
+    let start = c in
+    let timed = c.put_time-timed in (
+      start.requires.0,
+      start.requires.1,
+      omega (arith, start.requires.2, step-length start.args.time start.args.states.now start.args.next.now, timed.ensures.goes_on, timed.auto),
+    )
+
+pub returns : goal.returns
+returns c = wrote_step _ _ _ c.put_time-timed.ensures c.put_changes.ensures
