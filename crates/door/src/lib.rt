@@ -1,5 +1,7 @@
 // The door to C: the entries under C names, each with its four numbers written through `answer`. include/twistdory.h is its manual.
 // A slice passes as a pointer and a length in elements.
+#![tactic(auto)]
+
 ghost use Rattle.std.specs.Prelude.{◌≡◌, [], ◌∷◌};
 ghost use Rattle.model.specs.Run.{changes_of};
 ghost use Rattle.model.specs.Net.{net_of};

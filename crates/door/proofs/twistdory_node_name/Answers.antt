@@ -1,9 +1,5 @@
 -- `twistdory_node_name` meets its contract, by that of `node_span`. Assumes nothing.
 use native.Mathlib.Omega.{arith}
-use borrow.Author.Rules.{rules}
-use mathlib.Core.Path.{ap}
-use mathlib.Core.List.{[], ◌∷◌}
-use Rattle.text.specs.declared.Span.{Span}
 use Rattle.reader.proofs.Parts.{part_small}
 use Rattle.door.proofs.twistdory_node_name.Goals as goal
 
@@ -12,4 +8,3 @@ overflow_cast-part c = omega (arith, part_small _ _ _ c.node_span-name.ensures)
 
 pub overflow_cast-part-2 : goal.overflow_cast-part-2
 overflow_cast-part-2 c = omega (arith, part_small _ _ _ c.node_span-name.ensures)
-
