@@ -103,6 +103,7 @@ fn judge_run(
 }
 
 // What check is lent.
+#[tactic(auto, using(basis::proofs::Judging::size_broken, basis::proofs::Judging::size_kept, crate::proofs::Lengths::check_right), unfolding(model::specs::Rules::check_rules))]
 pub fn judge_check(
     kinds: &[u8],
     types: &[u8],
@@ -119,6 +120,7 @@ pub fn judge_check(
 }
 
 // What reset is lent. The old states are not tested.
+#[tactic(auto, using(basis::proofs::Judging::size_broken, basis::proofs::Judging::size_kept, crate::proofs::Lengths::reset_right), unfolding(model::specs::Rules::reset_rules))]
 pub fn judge_reset(kinds: &[u8], states: &[u8]) -> Verdict
     ensures { result ≡ judge (reset_rules kinds.now states.now) }
 {
@@ -129,6 +131,7 @@ pub fn judge_reset(kinds: &[u8], states: &[u8]) -> Verdict
 }
 
 // What a step is lent.
+#[tactic(auto, using(basis::proofs::Judging::size_broken, basis::proofs::Judging::size_kept, crate::proofs::Lengths::step_right), unfolding(model::specs::Rules::step_rules))]
 pub fn judge_step(
     kinds: &[u8],
     states: &[u8],
@@ -147,6 +150,7 @@ pub fn judge_step(
 }
 
 // What a unit run is lent.
+#[tactic(auto, using(basis::proofs::Judging::size_broken, basis::proofs::Judging::size_kept, basis::proofs::Judging::limit_broken, basis::proofs::Judging::limit_kept, crate::proofs::Lengths::run_right), unfolding(model::specs::Rules::unit_rules))]
 pub fn judge_unit(
     kinds: &[u8],
     states: &[u8],
@@ -174,6 +178,7 @@ pub fn judge_unit(
 }
 
 // What a ternary run is lent.
+#[tactic(auto, using(basis::proofs::Judging::size_broken, basis::proofs::Judging::size_kept, crate::proofs::Lengths::run_right), unfolding(model::specs::Rules::ternary_rules))]
 pub fn judge_ternary(
     kinds: &[u8],
     states: &[u8],

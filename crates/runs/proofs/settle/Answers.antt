@@ -14,7 +14,7 @@ returns-then-ends c =
     stops c.evaluate.ensures (turn.invariant.1 ∙ start.requires.0.states) (one_sized _) c.first_changed-place.ensures start.args.limit turn.invariant.3 turn.invariant.4
     (elim c.then-ends.branch [
       | then-ends-via-then-ends w ↦ inl (eq-eqb _ _ (omega (arith, w.if-ends.true)))
-      | then-ends-via-else-ends+then-count-limit w ↦ inr w.if-count-limit.true
+      | then-ends-via-else-ends+then-count-limit w ↦ inr (omega (arith, w.if-count-limit.true))
     ])
 
 pub loop-limit-preserved : goal.loop-limit-preserved

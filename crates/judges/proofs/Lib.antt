@@ -1,0 +1,2 @@
+-- What the judges' proofs cite.
+mod Lengths
