@@ -23,8 +23,7 @@ pub returns-then-not-settled : goal.returns-then-not-settled
 returns-then-not-settled c =
     let rest = c.settled in
     let kept = rest.auto in
-    let start = c in
-    start_leaves _ _ _ _ _ (omega arith) _ c.cells_for-used.ensures c.clear.ensures _ start.requires
+    start_leaves _ _ _ _ _ (omega arith) _ c.cells_for-used.ensures c.clear.ensures _ c.requires
     (sym rest.ensures.tells ∙ c.if-not-settled.true) rest.ensures.spared
 
 pub ternary_core-halves-requires : goal.ternary_core-halves-requires
@@ -45,6 +44,5 @@ returns c =
     let kept = ran.auto in
     let rest = c.settled in
     let kept-before = rest.auto in
-    let start = c in
-    ternary_leaves _ _ _ _ _ (omega arith) _ c.cells_for-used.ensures c.clear-2.ensures _ start.requires
+    ternary_leaves _ _ _ _ _ (omega arith) _ c.cells_for-used.ensures c.clear-2.ensures _ c.requires
     (sym rest.ensures.tells ∙ c.if-not-settled.false) rest.ensures.spared ran.ensures

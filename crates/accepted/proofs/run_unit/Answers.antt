@@ -25,6 +25,5 @@ pub returns : goal.returns
 returns c =
     let ran = c.unit_core-ran in
     let kept = ran.auto in
-    let start = c in
     rw (c.ran_answer.ensures, c.limit_of.ensures)
-    (unit_leaves _ _ _ _ _ (omega arith) _ c.cells_for-used.ensures c.clear.ensures _ _ start.requires ran.ensures)
+    (unit_leaves _ _ _ _ _ (omega arith) _ c.cells_for-used.ensures c.clear.ensures _ _ c.requires ran.ensures)

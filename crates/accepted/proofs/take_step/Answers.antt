@@ -7,14 +7,12 @@ use Rattle.accepted.proofs.take_step.Goals as goal
 
 pub cells_for-used-requires : goal.cells_for-used-requires
 cells_for-used-requires c =
-    let start = c in
-    let sized = (step_accepted _ _ _ start.requires).sound.sized in
+    let sized = (step_accepted _ _ _ c.requires).sound.sized in
     (sized.few_nodes, sized.few_transistors)
 
 pub step_once-moved-requires : goal.step_once-moved-requires
 step_once-moved-requires c =
-    let start = c in
-    checked (step_accepted _ _ _ start.requires) _ refl
+    checked (step_accepted _ _ _ c.requires) _ refl
 
 pub clear-requires : goal.clear-requires
 clear-requires c =

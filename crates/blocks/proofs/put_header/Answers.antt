@@ -9,16 +9,14 @@ put_text-opened-requires c = omega (arith, c.requires.1, header-length c.args.co
 
 pub put_wires-wired-requires : goal.put_wires-wired-requires
 put_wires-wired-requires c =
-    let start = c in
     let opened = c.put_text-opened in
-    (start.requires.0, omega (arith, start.requires.1, header-length start.args.count, opened.ensures.goes_on, opened.auto))
+    (c.requires.0, omega (arith, c.requires.1, header-length c.args.count, opened.ensures.goes_on, opened.auto))
 
 pub put_text-requires : goal.put_text-requires
 put_text-requires c =
-    let start = c in
     let opened = c.put_text-opened in
     let wired = c.put_wires-wired in
-    omega (arith, start.requires.1, header-length start.args.count, opened.ensures.goes_on, opened.auto, wired.ensures.goes_on, wired.auto)
+    omega (arith, c.requires.1, header-length c.args.count, opened.ensures.goes_on, opened.auto, wired.ensures.goes_on, wired.auto)
 
 pub returns : goal.returns
 returns c = wrote_header _ c.put_text-opened.ensures c.put_wires-wired.ensures c.put_text.ensures

@@ -9,16 +9,14 @@ put_text-opened-requires c = omega (arith, c.requires.1, start_length c.args.sta
 
 pub put_values-valued-requires : goal.put_values-valued-requires
 put_values-valued-requires c =
-    let start = c in
     let opened = c.put_text-opened in
-    (start.requires.0, omega (arith, start.requires.1, start_length start.args.states.now, opened.ensures.goes_on, opened.auto))
+    (c.requires.0, omega (arith, c.requires.1, start_length c.args.states.now, opened.ensures.goes_on, opened.auto))
 
 pub put_text-requires : goal.put_text-requires
 put_text-requires c =
-    let start = c in
     let opened = c.put_text-opened in
     let valued = c.put_values-valued in
-    omega (arith, start.requires.1, start_length start.args.states.now, opened.ensures.goes_on, opened.auto, valued.ensures.goes_on, valued.auto)
+    omega (arith, c.requires.1, start_length c.args.states.now, opened.ensures.goes_on, opened.auto, valued.ensures.goes_on, valued.auto)
 
 pub returns : goal.returns
 returns c = wrote_start _ c.put_text-opened.ensures c.put_values-valued.ensures c.put_text.ensures

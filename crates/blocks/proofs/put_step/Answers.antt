@@ -6,16 +6,14 @@ use Rattle.blocks.proofs.put_step.Goals as goal
 
 pub put_time-timed-requires : goal.put_time-timed-requires
 put_time-timed-requires c =
-    let start = c in
-    omega (arith, start.requires.2, step-length start.args.time start.args.states.now start.args.next.now)
+    omega (arith, c.requires.2, step-length c.args.time c.args.states.now c.args.next.now)
 
 pub put_changes-requires : goal.put_changes-requires
 put_changes-requires c =
-    let start = c in
     let timed = c.put_time-timed in (
-      start.requires.0,
-      start.requires.1,
-      omega (arith, start.requires.2, step-length start.args.time start.args.states.now start.args.next.now, timed.ensures.goes_on, timed.auto),
+      c.requires.0,
+      c.requires.1,
+      omega (arith, c.requires.2, step-length c.args.time c.args.states.now c.args.next.now, timed.ensures.goes_on, timed.auto),
     )
 
 pub returns : goal.returns

@@ -13,14 +13,12 @@ put_decimal-end-requires c = rw length-set (omega (arith, c.requires, time_lengt
 
 pub bounds-out-end : goal.bounds-out-end
 bounds-out-end c =
-    let start = c in
     let numbered = c.put_decimal-end in
-    omega (arith, start.requires, time_length start.args.time, numbered.ensures.goes_on, numbered.auto, length-set start.args.out.now start.args.place 35)
+    omega (arith, c.requires, time_length c.args.time, numbered.ensures.goes_on, numbered.auto, length-set c.args.out.now c.args.place 35)
 
 pub overflow_add-result : goal.overflow_add-result
 overflow_add-result c =
-    let start = c in
-    omega (arith, start.requires, time_length start.args.time, c.put_decimal-end.ensures.goes_on)
+    omega (arith, c.requires, time_length c.args.time, c.put_decimal-end.ensures.goes_on)
 
 pub returns : goal.returns
 returns c = wrote_time _ c.put_decimal-end.ensures

@@ -10,20 +10,17 @@ bounds-out-place c = omega (arith, c.requires.1, value_length c.args.node c.args
 
 pub put_code-end-requires : goal.put_code-end-requires
 put_code-end-requires c =
-    let start = c in
-    (start.requires.0, rw length-set (omega (arith, start.requires.1, value_length start.args.node start.args.state)))
+    (c.requires.0, rw length-set (omega (arith, c.requires.1, value_length c.args.node c.args.state)))
 
 pub bounds-out-end : goal.bounds-out-end
 bounds-out-end c =
-    let start = c in
     let coded = c.put_code-end in
-    omega (arith, start.requires.1, value_length start.args.node start.args.state, coded.ensures.goes_on, coded.auto, length-set start.args.out.now start.args.place c.letter_of.result)
+    omega (arith, c.requires.1, value_length c.args.node c.args.state, coded.ensures.goes_on, coded.auto, length-set c.args.out.now c.args.place c.letter_of.result)
 
 pub overflow_add-result : goal.overflow_add-result
 overflow_add-result c =
-    let start = c in
     let coded = c.put_code-end in
-    omega (arith, start.requires.1, value_length start.args.node start.args.state, coded.ensures.goes_on)
+    omega (arith, c.requires.1, value_length c.args.node c.args.state, coded.ensures.goes_on)
 
 pub returns : goal.returns
 returns c = wrote_value _ _ c.letter_of.ensures c.put_code-end.ensures

@@ -12,30 +12,27 @@ put_code-named-requires c = (c.requires.0, omega (arith, c.requires.1, wire_leng
 
 pub put_text-numbered-requires : goal.put_text-numbered-requires
 put_text-numbered-requires c =
-    let start = c in
     let typed = c.put_text-coded in
     let coded = c.put_code-named in
-    omega (arith, start.requires.1, wire_length start.args.node, typed.ensures.goes_on, typed.auto, coded.ensures.goes_on, coded.auto)
+    omega (arith, c.requires.1, wire_length c.args.node, typed.ensures.goes_on, typed.auto, coded.ensures.goes_on, coded.auto)
 
 pub put_decimal-ended-requires : goal.put_decimal-ended-requires
 put_decimal-ended-requires c =
-    let start = c in
     let typed = c.put_text-coded in
     let coded = c.put_code-named in
     let named = c.put_text-numbered in
-    omega (arith, start.requires.1, wire_length start.args.node, typed.ensures.goes_on, typed.auto, coded.ensures.goes_on, coded.auto, named.ensures.goes_on, named.auto)
+    omega (arith, c.requires.1, wire_length c.args.node, typed.ensures.goes_on, typed.auto, coded.ensures.goes_on, coded.auto, named.ensures.goes_on, named.auto)
 
 pub put_text-requires : goal.put_text-requires
 put_text-requires c =
-    let start = c in
     let typed = c.put_text-coded in
     let coded = c.put_code-named in
     let named = c.put_text-numbered in
     let numbered = c.put_decimal-ended in
     omega (
       arith,
-      start.requires.1,
-      wire_length start.args.node,
+      c.requires.1,
+      wire_length c.args.node,
       typed.ensures.goes_on,
       typed.auto,
       coded.ensures.goes_on,

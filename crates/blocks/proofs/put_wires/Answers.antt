@@ -7,9 +7,8 @@ use Rattle.blocks.proofs.put_wires.Goals as goal
 
 pub put_wire-end-requires : goal.put_wire-end-requires
 put_wire-end-requires c =
-    let start = c in
     let turn = c.loop-node in
-    (omega (arith, start.requires.0), omega (arith, start.requires.1, turn.invariant.1, turn.invariant.2.goes_on, each_fits wire_line turn.node start.args.count c.loop-node-test.true))
+    (omega (arith, c.requires.0), omega (arith, c.requires.1, turn.invariant.1, turn.invariant.2.goes_on, each_fits wire_line turn.node c.args.count c.loop-node-test.true))
 
 pub loop-node-preserved : goal.loop-node-preserved
 loop-node-preserved c =

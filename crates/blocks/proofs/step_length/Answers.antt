@@ -9,26 +9,24 @@ overflow_add-result c = omega (arith, c.decimal_length.ensures, decimal_few 4 c.
 
 pub overflow_add-result-2 : goal.overflow_add-result-2
 overflow_add-result-2 c =
-    let start = c in
-    let states = start.args.states.now in
-    let next = start.args.next.now in
+    let states = c.args.states.now in
+    let next = c.args.next.now in
     omega (
       arith,
       c.decimal_length.ensures,
       c.changes_length.ensures,
-      time_length start.args.time,
-      step-length start.args.time states next,
-      step_few start.args.time states next start.requires.0 start.requires.2,
-      start.requires.2,
+      time_length c.args.time,
+      step-length c.args.time states next,
+      step_few c.args.time states next c.requires.0 c.requires.2,
+      c.requires.2,
     )
 
 pub returns : goal.returns
 returns c =
-    let start = c in
     omega (
       arith,
       c.decimal_length.ensures,
       c.changes_length.ensures,
-      time_length start.args.time,
-      step-length start.args.time start.args.states.now start.args.next.now,
+      time_length c.args.time,
+      step-length c.args.time c.args.states.now c.args.next.now,
     )

@@ -9,12 +9,10 @@ use Rattle.dumping.proofs.run_fits_on.Goals as goal
 
 pub returns-then-room-front : goal.returns-then-room-front
 returns-then-room-front c =
-    let start = c in
-    let changes : List ℕ → List ℕ = λ x. put x start.args.nodes.now start.args.news.now in
-    front_too_long _ _ _ _ start.args.limit (c.enter.ensures ∙ ap changes (c.copy_bytes.ensures ∙ copied_whole _ _ start.requires.3)) refl c.front_length-front.ensures c.if-room-front.true
+    let changes : List ℕ → List ℕ = λ x. put x c.args.nodes.now c.args.news.now in
+    front_too_long _ _ _ _ c.args.limit (c.enter.ensures ∙ ap changes (c.copy_bytes.ensures ∙ copied_whole _ _ c.requires.3)) refl c.front_length-front.ensures c.if-room-front.true
 
 pub returns : goal.returns
 returns c =
-    let start = c in
-    let changes : List ℕ → List ℕ = λ x. put x start.args.nodes.now start.args.news.now in
-    blocks_decide _ _ _ _ start.args.limit (c.enter.ensures ∙ ap changes (c.copy_bytes.ensures ∙ copied_whole _ _ start.requires.3)) c.limit_of.ensures c.front_length-front.ensures start.args.room c.if-room-front.false c.steps_fit.ensures
+    let changes : List ℕ → List ℕ = λ x. put x c.args.nodes.now c.args.news.now in
+    blocks_decide _ _ _ _ c.args.limit (c.enter.ensures ∙ ap changes (c.copy_bytes.ensures ∙ copied_whole _ _ c.requires.3)) c.limit_of.ensures c.front_length-front.ensures c.args.room c.if-room-front.false c.steps_fit.ensures

@@ -13,39 +13,36 @@ use Rattle.dumping.proofs.steps_fit.Goals.{then-ends-via-then-ends, then-ends-vi
 
 pub returns-then-ends : goal.returns-then-ends
 returns-then-ends c =
-    let start = c in
     let turn = c.loop-limit in
-    let last : (eqb c.first_changed-place.result (length turn.states) ≡ true) ⊎ (turn.count ≡ start.args.limit) = elim c.then-ends.branch [
+    let last : (eqb c.first_changed-place.result (length turn.states) ≡ true) ⊎ (turn.count ≡ c.args.limit) = elim c.then-ends.branch [
       | then-ends-via-then-ends w ↦ inl (eq-eqb _ _ (omega (arith, w.if-ends.true)))
       | then-ends-via-else-ends+then-count-limit w ↦ inr w.if-count-limit.true
     ] in
     let evaluated = c.evaluate.ensures in
     let place = c.first_changed-place.ensures in
     record {
-      tells = room_enough _ _ _ _ (one_sized _) start.requires.0.states turn.invariant.0 evaluated place last turn.free turn.invariant.1;
-      spared = (ends_here _ _ _ _ (one_sized _) start.requires.0.states turn.invariant.0 evaluated place last).spared;
+      tells = room_enough _ _ _ _ (one_sized _) c.requires.0.states turn.invariant.0 evaluated place last turn.free turn.invariant.1;
+      spared = (ends_here _ _ _ _ (one_sized _) c.requires.0.states turn.invariant.0 evaluated place last).spared;
     }
 
 pub returns-then-free-block : goal.returns-then-free-block
 returns-then-free-block c =
-    let start = c in
     let turn = c.loop-limit in
     let below = c.if-count-limit.false in
     let low = turn.invariant.0.low in
     record {
-      tells = no_room _ _ _ _ (one_sized _) start.requires.0.states turn.invariant.0 c.evaluate.ensures c.first_changed-place.ensures (ne_eqb _ _ c.if-ends.false) (omega arith) turn.invariant.1 c.step_length-block.ensures c.if-free-block.true;
+      tells = no_room _ _ _ _ (one_sized _) c.requires.0.states turn.invariant.0 c.evaluate.ensures c.first_changed-place.ensures (ne_eqb _ _ c.if-ends.false) (omega arith) turn.invariant.1 c.step_length-block.ensures c.if-free-block.true;
       spared = λ k l. c.evaluate.ensures.after k l ∙ turn.invariant.0.spared k l;
     }
 
 pub loop-limit-preserved : goal.loop-limit-preserved
 loop-limit-preserved c =
-    let start = c in
     let turn = c.loop-limit in
     let low = turn.invariant.0.low in
     let below = c.if-count-limit.false in
     let evaluated = c.evaluate in
     let stored = c.store in
     let place = c.first_changed-place.ensures in (
-      reached_next _ _ _ _ (one_sized _) start.requires.0.states turn.invariant.0 evaluated.ensures place (ne_eqb _ _ c.if-ends.false) (omega arith) stored.ensures (omega (arith, stored.auto)) (omega (arith, evaluated.auto)),
-      less_room _ _ _ _ (one_sized _) start.requires.0.states turn.invariant.0 evaluated.ensures place (ne_eqb _ _ c.if-ends.false) (omega arith) turn.invariant.1 c.step_length-block.ensures c.if-free-block.false,
+      reached_next _ _ _ _ (one_sized _) c.requires.0.states turn.invariant.0 evaluated.ensures place (ne_eqb _ _ c.if-ends.false) (omega arith) stored.ensures (omega (arith, stored.auto)) (omega (arith, evaluated.auto)),
+      less_room _ _ _ _ (one_sized _) c.requires.0.states turn.invariant.0 evaluated.ensures place (ne_eqb _ _ c.if-ends.false) (omega arith) turn.invariant.1 c.step_length-block.ensures c.if-free-block.false,
     )

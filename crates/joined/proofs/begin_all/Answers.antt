@@ -5,7 +5,6 @@ use Rattle.joined.proofs.begin_all.Goals as goal
 
 pub loop-k-preserved : goal.loop-k-preserved
 loop-k-preserved c =
-    let start = c in
     let turn = c.loop-k in
     let more = c.loop-k-test.true in
-    (omega (arith, turn.invariant.0), omega arith, begun_more start.requires.0 turn.invariant.2 turn.invariant.0 more c.begin_at.ensures)
+    (omega (arith, turn.invariant.0), omega arith, begun_more c.requires.0 turn.invariant.2 turn.invariant.0 more c.begin_at.ensures)

@@ -10,32 +10,27 @@ loop-e-init c = (refl, start)
 
 pub follow-found-requires : goal.follow-found-requires
 follow-found-requires c =
-    let call = c in
-    fan_visitable call.requires c.untouched-sure.ensures c.loop-e.invariant.1 c.loop-e-test.true
+    fan_visitable c.requires c.untouched-sure.ensures c.loop-e.invariant.1 c.loop-e-test.true
 
 pub overflow_sub-e : goal.overflow_sub-e
 overflow_sub-e c =
-    let call = c in
-    let visit = fan_visitable call.requires c.untouched-sure.ensures c.loop-e.invariant.1 c.loop-e-test.true in
+    let visit = fan_visitable c.requires c.untouched-sure.ensures c.loop-e.invariant.1 c.loop-e-test.true in
     omega arith
 
 pub offset_bounds-work-n-in-loop-e : goal.offset_bounds-work-n-in-loop-e
 offset_bounds-work-n-in-loop-e c =
-    let call = c in
-    let visit = fan_visitable call.requires c.untouched-sure.ensures c.loop-e.invariant.1 c.loop-e-test.true in
-    let inside = fan_inside call.requires in omega arith
+    let visit = fan_visitable c.requires c.untouched-sure.ensures c.loop-e.invariant.1 c.loop-e-test.true in
+    let inside = fan_inside c.requires in omega arith
 
 pub bounds-work-n-in-loop-e : goal.bounds-work-n-in-loop-e
 bounds-work-n-in-loop-e c =
-    let call = c in
-    let visit = fan_visitable call.requires c.untouched-sure.ensures c.loop-e.invariant.1 c.loop-e-test.true in
+    let visit = fan_visitable c.requires c.untouched-sure.ensures c.loop-e.invariant.1 c.loop-e-test.true in
     omega (arith, c.follow-found.auto)
 
 pub loop-e-smaller : goal.loop-e-smaller
 loop-e-smaller c =
-    let call = c in
     let turn = c.loop-e in
-    fan_less call.requires c.untouched-sure.ensures turn.invariant.1 c.loop-e-test.true c.follow-found.ensures
+    fan_less c.requires c.untouched-sure.ensures turn.invariant.1 c.loop-e-test.true c.follow-found.ensures
 
 pub loop-e-preserved : goal.loop-e-preserved
 loop-e-preserved c =

@@ -13,35 +13,30 @@ loop-k-init c = (refl, begins)
 
 pub overflow_add-a : goal.overflow_add-a
 overflow_add-a c =
-    let start = c in
     let turn = c.loop-k in
-    let few = flood_few start.requires c.reach-found.ensures turn.invariant.1 in
+    let few = flood_few c.requires c.reach-found.ensures turn.invariant.1 in
     omega arith
 
 pub offset_bounds-work-n : goal.offset_bounds-work-n
 offset_bounds-work-n c =
-    let start = c in
     let turn = c.loop-k in
-    let few = flood_few start.requires c.reach-found.ensures turn.invariant.1 in
+    let few = flood_few c.requires c.reach-found.ensures turn.invariant.1 in
     omega arith
 
 pub bounds-work-n : goal.bounds-work-n
 bounds-work-n c =
-    let start = c in
     let turn = c.loop-k in
-    let few = flood_few start.requires c.reach-found.ensures turn.invariant.1 in
+    let few = flood_few c.requires c.reach-found.ensures turn.invariant.1 in
     omega (arith, c.loop-k-test.true)
 
 pub fan-found-requires : goal.fan-found-requires
 fan-found-requires c =
-    let start = c in
-    flood_fannable start.requires c.reach-found.ensures c.loop-k.invariant.1 c.loop-k-test.true
+    flood_fannable c.requires c.reach-found.ensures c.loop-k.invariant.1 c.loop-k-test.true
 
 pub loop-k-smaller : goal.loop-k-smaller
 loop-k-smaller c =
-    let start = c in
     let turn = c.loop-k in
-    let few = flood_few start.requires c.reach-found.ensures turn.invariant.1 in
+    let few = flood_few c.requires c.reach-found.ensures turn.invariant.1 in
     omega (arith, c.loop-k-test.true)
 
 pub loop-k-preserved : goal.loop-k-preserved

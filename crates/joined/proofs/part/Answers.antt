@@ -14,8 +14,7 @@ flood-found-requires c = turn_floodable c.requires c.if-m-lt-TELLING.false
 
 pub begin_all-requires : goal.begin_all-requires
 begin_all-requires c =
-    let start = c in
-    turn_listed start.requires c.if-m-lt-TELLING.false c.flood-found.ensures
+    turn_listed c.requires c.if-m-lt-TELLING.false c.flood-found.ensures
 
 pub returns-then-found : goal.returns-then-found
 returns-then-found c =

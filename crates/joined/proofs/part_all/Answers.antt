@@ -10,9 +10,8 @@ loop-v-init c = (refl, omega arith, nothing)
 
 pub part-parts-requires : goal.part-parts-requires
 part-parts-requires c =
-    let start = c in
     let past = c.loop-v in
-    record { listed = start.requires.0; unsure = start.requires.1; before = _; startable = start.requires.2; taking = turns_law start.requires.2 past.invariant.2; inside = c.loop-v-test.true }
+    record { listed = c.requires.0; unsure = c.requires.1; before = _; startable = c.requires.2; taking = turns_law c.requires.2 past.invariant.2; inside = c.loop-v-test.true }
 
 pub loop-v-preserved : goal.loop-v-preserved
 loop-v-preserved c =
@@ -22,6 +21,5 @@ loop-v-preserved c =
 
 pub returns : goal.returns
 returns c =
-    let start = c in
     let end = c.loop-v in
-    (λ listed unsure S. taking_end S c.loop-v-test.false (turns_law S end.invariant.2), visits_few (turns_law start.requires.2 end.invariant.2))
+    (λ listed unsure S. taking_end S c.loop-v-test.false (turns_law S end.invariant.2), visits_few (turns_law c.requires.2 end.invariant.2))

@@ -4,6 +4,5 @@ use Rattle.runs.proofs.settled.Goals as goal
 
 pub returns : goal.returns
 returns c =
-    let start = c in
     let evaluated = c.evaluate.ensures in
-    record { tells = settled_test evaluated start.requires.states (one_sized _) c.first_changed.ensures; spared = evaluated.after }
+    record { tells = settled_test evaluated c.requires.states (one_sized _) c.first_changed.ensures; spared = evaluated.after }

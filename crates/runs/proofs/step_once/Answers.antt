@@ -5,11 +5,10 @@ use Rattle.runs.proofs.step_once.Goals as goal
 
 pub returns : goal.returns
 returns c =
-    let start = c in
     let evaluated = c.evaluate.ensures in
     record {
-      place = c.first_changed-first.ensures ∙ evaluated_place evaluated start.requires.states;
-      count = c.differing-count.ensures ∙ evaluated_count evaluated start.requires.states;
-      states = c.store.ensures ∙ evaluated_states evaluated start.requires.states (one_sized _);
+      place = c.first_changed-first.ensures ∙ evaluated_place evaluated c.requires.states;
+      count = c.differing-count.ensures ∙ evaluated_count evaluated c.requires.states;
+      states = c.store.ensures ∙ evaluated_states evaluated c.requires.states (one_sized _);
       spared = evaluated.after;
     }

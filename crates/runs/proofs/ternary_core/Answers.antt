@@ -6,9 +6,8 @@ use Rattle.runs.proofs.ternary_core.Goals as goal
 
 pub returns : goal.returns
 returns c =
-    let start = c in
     let after-settle = c.settle-up in
     let after-raise-changed = c.raise_changed in
     let after-enter = c.enter in
     let after-settle2 = c.settle-down in
-    halved (stepper _) _ _ _ start.requires.1 start.requires.2 start.requires.0.states (omega (arith, after-settle.auto, after-raise-changed.auto)) after-raise-changed.ensures after-settle.ensures after-enter.ensures after-settle2.ensures
+    halved (stepper _) _ _ _ c.requires.1 c.requires.2 c.requires.0.states (omega (arith, after-settle.auto, after-raise-changed.auto)) after-raise-changed.ensures after-settle.ensures after-enter.ensures after-settle2.ensures

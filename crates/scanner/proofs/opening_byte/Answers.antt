@@ -24,10 +24,8 @@ returns-then-b-eq100 c = rw c.if-b-eq100.true
 
 pub returns-then-is_skipped : goal.returns-then-is_skipped
 returns-then-is_skipped c =
-    let b = c in
-    sym (opening-rest _ b.if-b-eq101.false b.if-b-eq110.false b.if-b-eq112.false b.if-b-eq100.false _ c.is_skipped.ensures ∙ ap (λ (r : Bool). cond r Skipped Other) c.if-is_skipped.true)
+    sym (opening-rest _ c.if-b-eq101.false c.if-b-eq110.false c.if-b-eq112.false c.if-b-eq100.false _ c.is_skipped.ensures ∙ ap (λ (r : Bool). cond r Skipped Other) c.if-is_skipped.true)
 
 pub returns : goal.returns
 returns c =
-    let b = c in
-    sym (opening-rest _ b.if-b-eq101.false b.if-b-eq110.false b.if-b-eq112.false b.if-b-eq100.false _ c.is_skipped.ensures ∙ ap (λ (r : Bool). cond r Skipped Other) c.if-is_skipped.false)
+    sym (opening-rest _ c.if-b-eq101.false c.if-b-eq110.false c.if-b-eq112.false c.if-b-eq100.false _ c.is_skipped.ensures ∙ ap (λ (r : Bool). cond r Skipped Other) c.if-is_skipped.false)

@@ -7,10 +7,10 @@ pub returns-then-size-eq0 : goal.returns-then-size-eq0
 returns-then-size-eq0 c = opening_none _ _ c.if-size-eq0.true
 
 pub returns-then-size-eq1 : goal.returns-then-size-eq1
-returns-then-size-eq1 c = let b = c in opening-one _ _ b.requires b.if-size-eq0.false _ refl c.if-size-eq1.true _ c.opening_byte.ensures
+returns-then-size-eq1 c = opening-one _ _ c.requires c.if-size-eq0.false _ refl c.if-size-eq1.true _ c.opening_byte.ensures
 
 pub returns-then-b-eq124 : goal.returns-then-b-eq124
-returns-then-b-eq124 c = let b = c in opening_bar _ _ b.requires b.if-size-eq0.false _ refl c.if-b-eq124.true
+returns-then-b-eq124 c = opening_bar _ _ c.requires c.if-size-eq0.false _ refl c.if-b-eq124.true
 
 pub returns : goal.returns
-returns c = let b = c in opening_long _ _ b.requires b.if-size-eq0.false _ refl c.if-size-eq1.false c.if-b-eq124.false
+returns c = opening_long _ _ c.requires c.if-size-eq0.false _ refl c.if-size-eq1.false c.if-b-eq124.false
