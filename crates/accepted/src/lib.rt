@@ -1,133 +1,86 @@
 // What an entry does once all that it is lent is accepted: it runs, and clears the work cells that it used.
 #![tactic(auto)]
 
-ghost use Rattle.std.specs.Prelude.{◌≡◌, cond};
-ghost use Rattle.model.specs.Run.{changes_of};
-ghost use Rattle.model.specs.Net.{net_of};
+ghost use Rattle.std.specs.Prelude.{◌≡◌, MatchResult, Ok};
+ghost use Rattle.model.specs.Lent.{lent, asked};
 ghost use Rattle.model.specs.Rules.{judge, step_rules, unit_rules, ternary_rules};
 ghost use Rattle.model.specs.Entries.{step_outcome, unit_outcome, ternary_outcome, Leaves};
-ghost use Rattle.model.specs.declared.Verdict.TheVariants.{Accepted};
 
-use model::Answer;
-use runs::Ran;
+use model::{Answer, ChangeList, Network};
+use runs::{Halves, Moved, Moving};
 use sizes::cells_for;
 
 // One step; the first node that differs after it, and how many do.
-pub fn take_step(
-    kinds: &[u8],
-    states: &mut [u8],
-    types: &[u8],
-    gates: &[u16],
-    sources: &[u16],
-    drains: &[u16],
-    work: &mut [u16],
-) -> Answer
-    requires { judge (step_rules (net_of kinds.now types.now gates.now sources.now drains.now) states.old work.old) ≡ Accepted }
-    ensures { let net = net_of kinds.now types.now gates.now sources.now drains.now in
-        Leaves (step_outcome net states.old work.old) result states.new work.new }
+#[tactic(auto, using(basis::proofs::Acceptance::step_accepted, basis::proofs::Acceptance::checked))]
+pub fn take_step(net: &Network, states: &mut [u8], work: &mut [u16]) -> Answer
+    requires { judge (step_rules (lent net.now) states.old work.old) ≡ Ok tt }
+    ensures { Leaves (step_outcome (lent net.now) states.old work.old) result states.new work.new }
 {
-    let used = cells_for(kinds.len(), types.len());
-    let moved = runs::step_once(kinds, states, types, gates, sources, drains, work);
+    let used = cells_for(net.kinds.len(), net.types.len());
+    let Moved { first, count } = runs::step_once(net, states, work);
     cells::clear(work, used);
     Answer::Done {
-        place: moved.first,
-        first: moved.count,
+        place: first,
+        first: count,
         second: 0,
     }
 }
 
 // The answer of a run that ended so, within the limit in force.
-fn ran_answer(ran: Ran, limit: u32) -> Answer
-    ensures { result ≡ cond ran.ends (Answer.Done 0 ran.count 0) (Answer.Oscillates ran.place limit) }
+fn ran_answer(ran: Result<u32, Moving>, limit: u32) -> Answer
+    ensures { MatchResult ran (λ count. result ≡ Answer.Done 0 count 0) (λ moving. result ≡ Answer.Oscillates moving.place limit) }
 {
-    if ran.ends {
-        Answer::Done {
+    match ran {
+        Ok(count) => Answer::Done {
             place: 0,
-            first: ran.count,
+            first: count,
             second: 0,
-        }
-    } else {
-        Answer::Oscillates {
-            place: ran.place,
-            limit,
-        }
+        },
+        Err(Moving { place, .. }) => Answer::Oscillates { place, limit },
     }
 }
 
 // The changes are entered, then steps follow, at most as many as the limit.
+#[tactic(auto, using(basis::proofs::Acceptance::unit_accepted, basis::proofs::Acceptance::checked, basis::proofs::Acceptance::named))]
 pub fn run_unit(
-    kinds: &[u8],
+    net: &Network,
     states: &mut [u8],
-    types: &[u8],
-    gates: &[u16],
-    sources: &[u16],
-    drains: &[u16],
-    change_nodes: &[u16],
-    change_states: &[u8],
+    changes: &ChangeList,
     limit: u32,
     work: &mut [u16],
 ) -> Answer
-    requires { let net = net_of kinds.now types.now gates.now sources.now drains.now in
-        judge (unit_rules net states.old (changes_of change_nodes.now change_states.now) limit work.old) ≡ Accepted }
-    ensures { let net = net_of kinds.now types.now gates.now sources.now drains.now in
-        let changes = changes_of change_nodes.now change_states.now in
-        Leaves (unit_outcome net states.old changes limit work.old) result states.new work.new }
+    requires { judge (unit_rules (lent net.now) states.old (asked changes.now) limit work.old) ≡ Ok tt }
+    ensures { let outcome = unit_outcome (lent net.now) states.old (asked changes.now) limit work.old in
+        Leaves outcome result states.new work.new }
 {
-    let used = cells_for(kinds.len(), types.len());
-    let ran = runs::unit_core(
-        kinds,
-        states,
-        types,
-        gates,
-        sources,
-        drains,
-        change_nodes,
-        change_states,
-        limit,
-        work,
-    );
+    let used = cells_for(net.kinds.len(), net.types.len());
+    let ran = runs::unit_core(net, states, changes, limit, work);
     cells::clear(work, used);
     ran_answer(ran, runs::limit_of(limit))
 }
 
 // From a settled start, steps with the changed inputs at X, then at their new states.
+#[tactic(auto, using(basis::proofs::Acceptance::ternary_accepted, basis::proofs::Acceptance::checked))]
 pub fn run_ternary(
-    kinds: &[u8],
+    net: &Network,
     states: &mut [u8],
-    types: &[u8],
-    gates: &[u16],
-    sources: &[u16],
-    drains: &[u16],
-    change_nodes: &[u16],
-    change_states: &[u8],
+    changes: &ChangeList,
     work: &mut [u16],
 ) -> Answer
-    requires { let net = net_of kinds.now types.now gates.now sources.now drains.now in
-        judge (ternary_rules net states.old (changes_of change_nodes.now change_states.now) work.old) ≡ Accepted }
-    ensures { let net = net_of kinds.now types.now gates.now sources.now drains.now in
-        let changes = changes_of change_nodes.now change_states.now in
-        Leaves (ternary_outcome net states.old changes work.old) result states.new work.new }
+    requires { judge (ternary_rules (lent net.now) states.old (asked changes.now) work.old) ≡ Ok tt }
+    ensures { let outcome = ternary_outcome (lent net.now) states.old (asked changes.now) work.old in
+        Leaves outcome result states.new work.new }
 {
-    let used = cells_for(kinds.len(), types.len());
-    if !runs::settled(kinds, states, types, gates, sources, drains, work) {
+    let used = cells_for(net.kinds.len(), net.types.len());
+    if !runs::settled(net, states, work) {
         cells::clear(work, used);
         return Answer::Start;
     }
-    let halves = runs::ternary_core(
-        kinds,
-        states,
-        types,
-        gates,
-        sources,
-        drains,
-        change_nodes,
-        change_states,
-        work,
-    );
+    let Halves { first, second } = runs::ternary_core(net, states, changes, work);
     cells::clear(work, used);
     Answer::Done {
         place: 0,
-        first: halves.first,
-        second: halves.second,
+        first,
+        second,
     }
 }

@@ -12,11 +12,11 @@ use Rattle.model.specs.Net.{Net, nodes, is_input}
 use Rattle.model.specs.Run.{Changes, changes_of}
 use Rattle.model.specs.Rules.{judge, kind_rule, wire_rule, state_rule, wire_tests, reset_rules, step_sizes, step_rules, run_rules, unit_rules, ternary_rules, run_sizes}
 use Rattle.model.specs.Demands.{Clean, Enterable}
-use Rattle.model.specs.declared.Verdict.TheVariants.{Accepted}
 use Rattle.laws.proofs.Changes.{clean_changes}
 use Rattle.laws.proofs.Judged.{Kept, clean, any_none}
 use Rattle.basis.specs.Sound.{Sized, SizedChanges, Sound, Fit, Checked, Named}
 use Rattle.basis.proofs.Fitting.{reset_sized, step_sized, run_sized}
+use Rattle.std.proofs.Common.{Ok}
 
 pub sound : (net : Net) → Sized net → Kept (kind_rule net.kinds) → Kept (wire_rule net) → Sound net
 unfolding wire_tests
@@ -35,11 +35,11 @@ fit net s w e k d h =
     let f = step_sized net s w e in
     record { sound = sound net f.0 k d; states_level = f.1; state_is = λ v l. ltb-false highest_state (at s v) (h v (omega arith)); room = f.2 }
 
-pub reset_level : (kinds s : List ℕ) → judge (reset_rules kinds s) ≡ Accepted → length s ≡ length kinds
+pub reset_level : (kinds s : List ℕ) → judge (reset_rules kinds s) ≡ Ok tt → length s ≡ length kinds
 unfolding reset_rules
 reset_level kinds s e = (reset_sized kinds s ((clean (reset_rules kinds s) e).0 0 (omega arith))).2
 
-pub step_accepted : (net : Net) (s w : List ℕ) → judge (step_rules net s w) ≡ Accepted → Fit net s w
+pub step_accepted : (net : Net) (s w : List ℕ) → judge (step_rules net s w) ≡ Ok tt → Fit net s w
 unfolding step_rules
 step_accepted net s w e =
     let c = clean (step_rules net s w) e in
@@ -52,14 +52,14 @@ run_accepted net s ch w e c =
     let f = run_sized net s ch w e in
     (fit net s w f.0 c.0 c.1.0 c.1.1.0, f.1, clean_changes net ch c.1.1.1.0)
 
-pub unit_accepted : (net : Net) (s : List ℕ) (ch : Changes) (limit : ℕ) (w : List ℕ) → judge (unit_rules net s ch limit w) ≡ Accepted → Fit net s w × SizedChanges ch × Enterable (nodes net) (is_input net) ch × (limit ≤ highest_limit)
+pub unit_accepted : (net : Net) (s : List ℕ) (ch : Changes) (limit : ℕ) (w : List ℕ) → judge (unit_rules net s ch limit w) ≡ Ok tt → Fit net s w × SizedChanges ch × Enterable (nodes net) (is_input net) ch × (limit ≤ highest_limit)
 unfolding unit_rules
 unit_accepted net s ch limit w e =
     let c = clean (unit_rules net s ch limit w) e in
     let f = run_accepted net s ch w (c.0 0 (omega arith)) c.1.1 in
     (f.0, f.1, f.2, ltb-false highest_limit limit (c.1.0 0 (omega arith)))
 
-pub ternary_accepted : (net : Net) (s : List ℕ) (ch : Changes) (w : List ℕ) → judge (ternary_rules net s ch w) ≡ Accepted → Fit net s w × SizedChanges ch × Enterable (nodes net) (is_input net) ch
+pub ternary_accepted : (net : Net) (s : List ℕ) (ch : Changes) (w : List ℕ) → judge (ternary_rules net s ch w) ≡ Ok tt → Fit net s w × SizedChanges ch × Enterable (nodes net) (is_input net) ch
 unfolding ternary_rules
 ternary_accepted net s ch w e =
     let c = clean (ternary_rules net s ch w) e in
@@ -100,6 +100,3 @@ named f e = record { lengths = f.values_level; below = e.below }
 
 pub named_of : {ps vs : List ℕ} {n n' : ℕ} {input : ℕ → Bool} → length vs ≡ length ps → Enterable n input (changes_of ps vs) → n' ≡ n → Named (changes_of ps vs) n'
 named_of q E e = record { lengths = q; below = λ i l. rw e (E.below i l) }
-
-pub named-at : {ch : Changes} {n n' : ℕ} → Named ch n → n' ≡ n → Named ch n'
-named-at N e = rw e N

@@ -1,50 +1,68 @@
 -- Which nodes a step changes: the first, looked for one by one; how many, counted one by one; and none exactly where the states are the same. Assumes
 -- nothing.
-use Prim.Native.Nat.{ℕ, ◌+◌, ◌≤◌, ◌<◌}
+use Prim.Native.Nat.{ℕ, zero, suc, ◌+◌, ◌≤◌}
 use native.Mathlib.Omega.{arith}
-use native.Mathlib.Numerals.{add-one}
-use mathlib.Core.Path.{◌≡◌, refl, sym, ap, ◌∙◌}
+use mathlib.Core.Path.{◌≡◌, refl, ap, ◌∙◌}
 use mathlib.Core.Bool.{Bool, true, false, not, cond}
-use mathlib.Core.List.{List}
-use lib.ListN.{length}
-use lib.Dec.{eqb}
-use borrow.Author.Tests.{eq-eqb, ne_eqb}
-use Rattle.model.specs.Places.{count, at, same}
+use mathlib.Core.List.{List, [], ◌∷◌}
+use lib.ListN.{length, take}
+use lib.Seq.{length-take-le}
+use lib.Dec.{eqb, ltb}
+use borrow.Author.Tests.{ltb-false, eq-eqb, ne_eqb}
+use Rattle.std.proofs.Common.{Some, None}
+use Rattle.std.proofs.lemmas.List.Sums.{prefix_len-le-length, sum_by-cons}
+use Rattle.std.proofs.lemmas.Slice.Zip.{length-zip}
+use Rattle.std.specs.List.{zip, position, position_or_len, sum_by}
+use Rattle.std.specs.Option.{unwrap_or}
+use Rattle.model.specs.Places.{first, same}
 use Rattle.model.specs.Run.{changed}
 use Rattle.model.specs.Entries.{altered, first_changed}
-use Rattle.laws.proofs.Descent.{count_all, count-suc}
+use Rattle.laws.proofs.Descent.{count_all}
 use Rattle.laws.proofs.Settle.{same_true, same_false}
 use Rattle.laws.proofs.Moved.{none_changed}
-use Rattle.basis.proofs.Finding.{NoneBelow, first-at, first_none}
 
--- of states s, with the next states in w
-module _ (s w : List ℕ) where
-  -- none below v is changed, and v is, or there is no other
-  pub first_here : (v : ℕ) → v < length s → (at s v ≡ at w v → ⊥) → NoneBelow (changed s w) v → v ≡ first_changed s w
-  unfolding first_changed
-  first_here v l d f = first-at (length s) (changed s w) v l (ap not (ne_eqb (at s v) (at w v) d)) f
+-- how a state and a next state differ
+abbrev pub differs : ℕ × ℕ → Bool
+differs p = not (eqb p.0 p.1)
 
-  pub first_nowhere : (v : ℕ) → v ≤ length s → length s ≤ v → NoneBelow (changed s w) v → v ≡ first_changed s w
-  unfolding first_changed
-  first_nowhere v l m f = first_none (length s) (changed s w) v l m f
+-- of states s, with the next states in w, taken in pairs: the first that differ are those of the first changed node
+first_pair : (s w : List ℕ) → length s ≤ length w → position_or_len differs (zip s (take (length s) w)) ≡ first (length s) (changed s w)
+first_pair [] w h = refl
+first_pair (x ∷ s) [] h = absurd (omega arith)
+first_pair (x ∷ s) (y ∷ w) h = go (eqb x y) (first_pair s w (omega arith))
+  where
+    go : (b : Bool) → {k n : ℕ} → k ≡ n → cond (not (not b)) (1 + k) 0 ≡ elim (not b) [ true ↦ zero | false ↦ suc n ]
+    go true e = omega (arith, e)
+    go false e = refl
 
-  -- the changed nodes below v are counted, with one more, and then all
-  pub one_few : (v r : ℕ) → r ≡ cond (changed s w v) 1 0 → r ≤ 1
-  one_few v r e = omega (arith, e, go (changed s w v))
-    where
-      go : (b : Bool) → cond b 1 0 ≤ 1
-      go true = omega arith
-      go false = omega arith
+pub first_of_pairs : (s w : List ℕ) → length s ≤ length w → unwrap_or (position differs (zip s (take (length s) w))) (length s) ≡ first_changed s w
+unfolding first_changed
+first_of_pairs s w h = go (ltb p (length pairs)) refl
+  where
+    pairs : List (ℕ × ℕ)
+    pairs = zip s (take (length s) w)
 
-  pub count_few : (v k : ℕ) → k ≡ count v (changed s w) → k ≤ v
-  count_few v k e = rw e (count_all v (changed s w))
+    p : ℕ
+    p = position_or_len differs pairs
 
-  pub count_more : (v k r : ℕ) → k ≡ count v (changed s w) → r ≡ cond (changed s w v) 1 0 → k + r ≡ count (v + 1) (changed s w)
-  count_more v k r e f = rw (e, f, add-one) (sym (count-suc v (changed s w)))
+    go : (b : Bool) → ltb p (length pairs) ≡ b → unwrap_or (cond b (Some p) None) (length s) ≡ first (length s) (changed s w)
+    go true e = first_pair s w h
+    go false e =
+        omega (arith, ltb-false _ _ e, first_pair s w h, length-zip s (take (length s) w), length-take-le (length s) w h, prefix_len-le-length (λ p. not (differs p)) pairs)
 
-  pub count_end : (v k : ℕ) → v ≡ length s → k ≡ count v (changed s w) → k ≡ altered s w
-  unfolding altered
-  count_end v k l e = e ∙ ap (λ (n : ℕ). count n (changed s w)) l
+-- as many pairs differ as nodes are changed
+abbrev pub one_if_differs : ℕ × ℕ → ℕ
+one_if_differs p = cond (differs p) 1 0
+
+pub sum_of_pairs : (s w : List ℕ) → length s ≤ length w → sum_by one_if_differs (zip s w) ≡ altered s w
+unfolding altered
+sum_of_pairs [] w h = refl
+sum_of_pairs (x ∷ s) [] h = absurd (omega arith)
+sum_of_pairs (x ∷ s) (y ∷ w) h = sum_by-cons one_if_differs (x, y) (zip s w) ∙ ap (◌+◌ (one_if_differs (x, y))) (sum_of_pairs s w (omega arith))
+
+pub sum_few : (s w : List ℕ) → length s ≤ length w → sum_by one_if_differs (zip s w) ≤ length s
+unfolding altered
+sum_few s w h = rw (sum_of_pairs s w h) (count_all (length s) (changed s w))
 
 -- states of one length are the same if no node is changed, and not if one is
 pub same_first : (s r : List ℕ) → length r ≡ length s → eqb (first_changed s r) (length s) ≡ same r s

@@ -1,7 +1,7 @@
 -- What the tests of SIZE say: from tests that all fail, the bounds and the equal lengths. Assumes nothing.
 use Prim.Native.Nat.{ℕ, ◌≤◌}
-use mathlib.Core.Path.{◌≡◌, refl, ap, ◌∙◌, sym}
-use mathlib.Core.Bool.{Bool, true, false, ◌||◌, true≢false}
+use mathlib.Core.Path.{◌≡◌, refl}
+use mathlib.Core.Bool.{Bool, true, false, true≢false}
 use mathlib.Core.List.{List, [], ◌∷◌, ◌++◌}
 use borrow.Author.Tests.{ltb-false}
 use lib.ListN.{length}
@@ -12,19 +12,6 @@ use Rattle.model.specs.Run.{Changes}
 use Rattle.model.specs.Rules.{node_sizes, state_sizes, wire_sizes, work_sizes, change_sizes, cells, check_sizes, reset_sizes, step_sizes, run_sizes}
 use Rattle.laws.proofs.Judged.{any_none, level_at}
 use Rattle.basis.specs.Sound.{Level, Sized, SizedChanges}
-
-any_append : (bs cs : List Bool) → any (bs ++ cs) ≡ (any bs || any cs)
-any_append [] cs = refl
-any_append (true ∷ bs) cs = refl
-any_append (false ∷ bs) cs = any_append bs cs
-
--- tests before others: what the code has found of the first tests, b, serves for all
-module _ (bs cs : List Bool) (b : Bool) (e : b ≡ any bs) where
-  pub passed_first : b ≡ true → true ≡ any (bs ++ cs)
-  passed_first h = sym (any_append bs cs ∙ ap (λ (x : Bool). x || any cs) (sym e ∙ h))
-
-  pub failed_first : (d : Bool) → b ≡ false → d ≡ any cs → d ≡ any (bs ++ cs)
-  failed_first d h k = k ∙ sym (any_append bs cs ∙ ap (λ (x : Bool). x || any cs) (sym e ∙ h))
 
 -- all fail
 pub any_apart : (bs cs : List Bool) → any (bs ++ cs) ≡ false → (any bs ≡ false) × (any cs ≡ false)

@@ -1,6 +1,5 @@
 -- What code rests on: searches and tests, cells that are stored, what acceptance says, steps and runs, and what an entry leaves.
 pub mod Finding
-pub mod Judging
 pub mod Fitting
 pub mod Acceptance
 pub mod Cells

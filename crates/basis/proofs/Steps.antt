@@ -3,8 +3,9 @@ use Prim.Native.Nat.{ℕ, zero, suc, ◌+◌, ◌-◌, ◌<◌}
 use native.Mathlib.Omega.{arith}
 use native.Mathlib.Numerals.{add-one}
 use mathlib.Core.Path.{◌≡◌, refl, sym, ap, ◌∙◌}
-use mathlib.Core.Bool.{Bool, true, false, not, false≢true}
-use mathlib.Core.Logic.{◌⊎◌, inl, inr}
+use mathlib.Core.Bool.{Bool, true, false, not}
+use mathlib.Core.Logic.{◌≢◌}
+use borrow.Author.Tests.{eq-eqb, ne_eqb}
 use mathlib.Core.List.{List}
 use lib.ListN.{length}
 use lib.Seq.{ext_get_or}
@@ -91,17 +92,15 @@ module _ {by : Stepping} where
 
         module _ {count : ℕ} (limit : ℕ) where
           -- they stop where the state is settled, and at the limit; else they go on
-          pub stops : {run : Ran} {w₀ : List ℕ} → run ≡ settle by.next (limit - count) count s → Spared by.used w₀ w → (eqb p (length s) ≡ true) ⊎ (count ≡ limit)
-              → Ended by run w₀ (eqb p (length s)) p count s w'
-          stops {run} {w₀} i r = go (eqb p (length s)) refl
-            where
-              go : (b : Bool) → eqb p (length s) ≡ b → (b ≡ true) ⊎ (count ≡ limit) → Ended by run w₀ b p count s w'
-              go true e h = ended_as (i ∙ settle_ends by.next (limit - count) count s (sym settled_test ∙ e)) (λ j l. E.after j l ∙ r j l) (c ∙ evaluated_place)
-              go false e (inl h) = absurd (false≢true h)
-              go false e (inr h) = ended_as (i ∙ settle-stops by.next (limit - count) count s (omega arith) (sym settled_test ∙ e)) (λ j l. E.after j l ∙ r j l) (c ∙ evaluated_place)
+          pub rests : {run : Ran} {w₀ : List ℕ} → run ≡ settle by.next (limit - count) count s → Spared by.used w₀ w → p ≡ length s → Ended by run w₀ true by.size count s w'
+          rests i r e = ended_as (i ∙ settle_ends by.next (limit - count) count s (sym settled_test ∙ eq-eqb _ _ e)) (λ j l. E.after j l ∙ r j l) (sym long ∙ sym e ∙ c ∙ evaluated_place)
 
-          pub goes : {x : Ran} → x ≡ settle by.next (limit - count) count s → eqb p (length s) ≡ false → count < limit → {s' : List ℕ} → s' ≡ tab (length s) (at w')
+          pub stops : {run : Ran} {w₀ : List ℕ} → run ≡ settle by.next (limit - count) count s → Spared by.used w₀ w → p ≢ length s → count ≡ limit → Ended by run w₀ false p count s w'
+          stops i r n h =
+              ended_as (i ∙ settle-stops by.next (limit - count) count s (omega arith) (sym settled_test ∙ ne_eqb _ _ n)) (λ j l. E.after j l ∙ r j l) (c ∙ evaluated_place)
+
+          pub goes : {x : Ran} → x ≡ settle by.next (limit - count) count s → p ≢ length s → count < limit → {s' : List ℕ} → s' ≡ tab (length s) (at w')
               → x ≡ settle by.next (limit - (count + 1)) (count + 1) s'
           goes i z e q =
-              i ∙ settle_goes by.next (limit - count) (limit - (count + 1)) count s (omega arith) (sym settled_test ∙ z)
+              i ∙ settle_goes by.next (limit - count) (limit - (count + 1)) count s (omega arith) (sym settled_test ∙ ne_eqb _ _ z)
               ∙ ap (settle by.next (limit - (count + 1)) (count + 1)) (sym (q ∙ evaluated_states))

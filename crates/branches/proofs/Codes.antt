@@ -1,11 +1,11 @@
 -- The codes of cells, by cases. Assumes nothing.
 use Prim.Native.Nat.{ℕ, ◌+◌, ◌*◌, ◌-◌, ◌/◌, ◌%◌, ◌≤◌, ◌<◌}
 use native.Mathlib.Omega.{arith}
-use native.Mathlib.Decide.{ℕ_discrete, dec_lt}
-use mathlib.Core.Path.{◌≡◌, refl, ap, ◌∙◌}
-use mathlib.Core.Bool.{Bool, true, false, cond}
+use native.Mathlib.Decide.{ℕ_discrete}
+use mathlib.Core.Path.{◌≡◌}
+use mathlib.Core.Bool.{true, false}
 use lib.Dec.{eqb, leb}
-use borrow.Author.Tests.{eq-eqb, ne_eqb, lt-ltb, le-ltb, le-leb, lt-leb}
+use borrow.Author.Tests.{eq-eqb, ne_eqb, lt-ltb, le-ltb}
 use Rattle.branches.specs.Code.{strength_of, mark_of, mark, rank, together, unlike, begin}
 
 -- a cell with a strength, and one without
@@ -63,21 +63,6 @@ pub unlike_1 : (b m : ℕ) → (b ≡ 0 → ⊥) → eqb (m % 2) 1 ≡ unlike b 
 unfolding unlike
 unlike_1 b m e = rw (ne_eqb b 0 e)
 
--- as a number
-pub bit_0 : (b m : ℕ) → m ≤ 3 → b ≡ 0 → m / 2 ≡ cond (unlike b m) 1 0
-bit_0 b m l e = go (dec_lt m 2)
-  where
-    go : Dec (m < 2) → m / 2 ≡ cond (unlike b m) 1 0
-    go (yes q) = rw (← unlike_0 b m e, lt-leb 2 m q) (omega arith)
-    go (no q) = rw (← unlike_0 b m e, le-leb 2 m (omega arith)) (omega arith)
-
-pub bit_1 : (b m : ℕ) → (b ≡ 0 → ⊥) → m % 2 ≡ cond (unlike b m) 1 0
-bit_1 b m e = go (ℕ_discrete (m % 2) 1)
-  where
-    go : Dec (m % 2 ≡ 1) → m % 2 ≡ cond (unlike b m) 1 0
-    go (yes q) = rw (← unlike_1 b m e, eq-eqb (m % 2) 1 q) q
-    go (no q) = rw (← unlike_1 b m e, ne_eqb (m % 2) 1 q) (omega arith)
-
 -- what a table begins with, by what its cells tell
 pub begin_offered : (b c u : ℕ) → unlike b (mark u) ≡ true → 7 ≡ begin b c u
 unfolding begin
@@ -90,10 +75,3 @@ begin_real b c u e f = rw (e, f)
 pub begin-bare : (b c u : ℕ) → unlike b (mark u) ≡ false → unlike b (mark c) ≡ false → 2 * (rank c - 1) ≡ begin b c u
 unfolding begin
 begin-bare b c u e f = rw (e, f)
-
-pub begin_else : (b c u x : ℕ) → 17 ≤ c / 4 → unlike b (mark u) ≡ false → x ≡ cond (unlike b (mark c)) 1 0 → 2 * (rank c - 1) + 3 * x ≡ begin b c u
-begin_else b c u x l e f = go (unlike b (mark c)) refl
-  where
-    go : (a : Bool) → unlike b (mark c) ≡ a → 2 * (rank c - 1) + 3 * x ≡ begin b c u
-    go true g = let one : x ≡ 1 = f ∙ ap (λ (y : Bool). cond y 1 0) g in omega (arith, begin_real b c u e g)
-    go false g = let none : x ≡ 0 = f ∙ ap (λ (y : Bool). cond y 1 0) g in omega (arith, begin-bare b c u e g)

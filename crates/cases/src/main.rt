@@ -1,97 +1,85 @@
 // The case program: runs the bench set K1 to K14 through the library's entries and prints a line each: mark, answer, place, first count,
 // second count, states from node 0. It reads nothing. Each case starts from a table of 256 nodes, all at X, sets the states that it names and
-// lends the front of the table.
+// lends the front of the table: a caller's table may be longer than what is lent of it.
 #![tactic(auto)]
 
-use bench::{Changes, Net};
+ghost use Rattle.std.specs.Prelude.{◌≤◌, length};
+
+use bench::{FENCE, INV, LATCH, PASS, RING, SHORT, SPLIT};
+use lines::{Row, States};
+use model::{ChangeList, Network};
 use std::io;
 use trials::Entry;
+use trials::Entry::{Ternary, Unit};
 
-// The state that is not known.
+// The state that is not known: a byte of a lent table, as the C interface has it.
 const X: u8 = 2;
 
-// One case: a network, the states of its nodes in a table of 256 that are all at X, the changes, and a run. All tables are lent here.
-fn case(
-    rt: &impl Print,
-    mark: u32,
-    net: Net,
-    start: [u8; 4],
-    changes: Changes,
-    run: Entry,
+// One case: the entry, its limit, where 0 stands for the default, the network, the states of its nodes, and the changes.
+#[derive(Drop)]
+struct Case<'a> {
+    entry: Entry,
     limit: u32,
-) -> io::Result<()> {
-    let tables = bench::tables_of(net);
-    let list = bench::list_of(changes);
-    let mut table = bench::started([2u8; 256], start);
-    let n = tables.nodes;
-    let t = tables.transistors;
-    let c = list.count;
-    let kinds = tables.kinds;
-    let types = tables.types;
-    let gates = tables.gates;
-    let sources = tables.sources;
-    let drains = tables.drains;
-    let nodes = list.nodes;
-    let news = list.states;
-    let mut work = [0u16; 64];
-    let answer = trials::call(
-        run,
-        &kinds[..n],
-        &mut table[..n],
-        &types[..t],
-        &gates[..t],
-        &sources[..t],
-        &drains[..t],
-        &nodes[..c],
-        &news[..c],
-        limit,
-        &mut work,
-    );
-    lines::show_case(rt, mark, answer, &table[..n])
+    net: Network<'a>,
+    start: &'a [u8],
+    changes: ChangeList<'a>,
+    ghost fits: { length start.now ≤ 256 },
 }
 
-// A unit run to a limit, where 0 stands for the default.
-fn unit(
-    rt: &impl Print,
-    mark: u32,
-    net: Net,
-    start: [u8; 4],
-    changes: Changes,
-    limit: u32,
-) -> io::Result<()> {
-    case(rt, mark, net, start, changes, Entry::Unit, limit)
-}
+impl<'a> Case<'a> {
+    // A case on one line; the changes are the nodes, then the state that each takes.
+    fn new(
+        entry: Entry,
+        limit: u32,
+        net: Network<'a>,
+        start: &'a [u8],
+        nodes: &'a [u16],
+        states: &'a [u8],
+    ) -> Self
+        requires { length start.now ≤ 256 }
+    {
+        let changes = ChangeList { nodes, states };
+        Case {
+            entry,
+            limit,
+            net,
+            start,
+            changes,
+        }
+    }
 
-fn ternary(
-    rt: &impl Print,
-    mark: u32,
-    net: Net,
-    start: [u8; 4],
-    changes: Changes,
-) -> io::Result<()> {
-    case(rt, mark, net, start, changes, Entry::Ternary, 0)
+    // Runs it, and prints its line.
+    fn show(&self, rt: &impl Print, mark: usize) -> io::Result<()> {
+        let mut table = [X; 256];
+        let states = &mut table[..self.start.len()];
+        states.copy_from_slice(self.start);
+        let mut work = [0; 64];
+        let answer = self
+            .entry
+            .call(&self.net, states, &self.changes, self.limit, &mut work);
+        println!(rt; "K{mark} {} {}", Row(answer), States(states))
+    }
 }
 
 fn main(rt: HostRuntime) -> io::Result<()> {
-    unit(&rt, 1, Net::Inv, [0, X, X, X], Changes::One(1, 1), 0)?;
-    unit(&rt, 2, Net::Inv, [0, 1, 0, X], Changes::One(1, X), 0)?;
-    ternary(&rt, 3, Net::Inv, [0, 1, 0, X], Changes::One(1, 0))?;
-    unit(&rt, 4, Net::Pass, [0, 1, 0, X], Changes::One(0, 1), 0)?;
-    unit(&rt, 5, Net::Pass, [0, 1, 1, X], Changes::One(0, X), 0)?;
-    unit(&rt, 6, Net::Ring, [0, 0, X, X], Changes::None, 4)?;
-    ternary(&rt, 7, Net::Ring, [0, 0, X, X], Changes::None)?;
-    unit(&rt, 8, Net::Inv, [0, X, X, X], Changes::Two(1, 1, 1, 1), 0)?;
-    unit(&rt, 9, Net::Fence, [X, 0, 1, 1], Changes::None, 0)?;
-    unit(&rt, 10, Net::Short, [0, 1, 0, X], Changes::None, 0)?;
-    unit(&rt, 11, Net::Split, [1, 0, 0, 0], Changes::None, 0)?;
-    unit(
-        &rt,
-        12,
-        Net::Latch,
-        [1, 0, 0, X],
-        Changes::Two(0, 0, 1, 1),
-        0,
-    )?;
-    ternary(&rt, 13, Net::Latch, [1, 0, 0, X], Changes::Two(0, 0, 1, 1))?;
-    unit(&rt, 14, Net::Ring, [0, X, X, X], Changes::None, 4)
+    let cases = [
+        Case::new(Unit, 0, INV, &[0, X, X], &[1], &[1]),
+        Case::new(Unit, 0, INV, &[0, 1, 0], &[1], &[X]),
+        Case::new(Ternary, 0, INV, &[0, 1, 0], &[1], &[0]),
+        Case::new(Unit, 0, PASS, &[0, 1, 0], &[0], &[1]),
+        Case::new(Unit, 0, PASS, &[0, 1, 1], &[0], &[X]),
+        Case::new(Unit, 4, RING, &[0, 0], &[], &[]),
+        Case::new(Ternary, 0, RING, &[0, 0], &[], &[]),
+        Case::new(Unit, 0, INV, &[0, X, X], &[1, 1], &[1, 1]),
+        Case::new(Unit, 0, FENCE, &[X, 0, 1, 1], &[], &[]),
+        Case::new(Unit, 0, SHORT, &[0, 1, 0], &[], &[]),
+        Case::new(Unit, 0, SPLIT, &[1, 0, 0, 0], &[], &[]),
+        Case::new(Unit, 0, LATCH, &[1, 0, 0], &[0, 1], &[0, 1]),
+        Case::new(Ternary, 0, LATCH, &[1, 0, 0], &[0, 1], &[0, 1]),
+        Case::new(Unit, 4, RING, &[0, X], &[], &[]),
+    ];
+    for (place, case) in cases.into_iter().enumerate() {
+        case.show(&rt, place + 1)?;
+    }
+    Ok(())
 }

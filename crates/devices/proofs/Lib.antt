@@ -1,3 +1,4 @@
 -- What the proofs of devices cite.
+mod Spelling
 mod Joining
 mod Midway

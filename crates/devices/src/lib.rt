@@ -1,298 +1,242 @@
-// Devices in tables with room: a pullup, or one more transistor; and the lines of a text in turn, up to the first that offends.
+// The network that the lines of a text add up to, in tables with room: a pullup, or one more transistor, for each device; and the lines in turn,
+// up to the first that offends.
 #![tactic(auto)]
 
-ghost use Rattle.std.specs.Prelude.{◌+◌, ◌≤◌, ◌<◌, ◌≡◌, ◌&&◌, ◌||◌, length, eqb, ltb};
+ghost use Rattle.std.specs.Prelude.{◌+◌, ◌≤◌, ◌<◌, ◌≡◌, length, IfErr, IfOk};
 ghost use Rattle.model.specs.Places.{at};
-ghost use Rattle.model.specs.Net.{net_of};
-ghost use Rattle.text.specs.Netlist.{type_number, rail, pulls, joined, device, added, bad, reading};
+ghost use Rattle.model.specs.Net.{transistors};
+ghost use Rattle.model.specs.Lent.{lent};
+ghost use Rattle.text.specs.Netlist.{kind_of, rail, pulls, joined, device, added, offends, number_of, named, nodes_of, nothing, reading};
+ghost use Rattle.text.specs.Promised.{Fits};
 ghost use Rattle.textlaws.proofs.Lines.{AllFit, LineFits};
-ghost use Rattle.names.specs.Chains.{Linked};
-ghost use Rattle.devices.specs.Tables.{net_at, netlist_at, Roomed, told, Roomy};
+ghost use Rattle.names.specs.Known.{known};
+ghost use Rattle.devices.specs.Tables.{so_far, with_net, with_nodes, Level};
+ghost use Rattle.devices.specs.Told.{told};
 
-use model::{GROUND, POWER, PULLUP};
-use names::{CHAINS, NODE_CELLS};
-use text::{DeviceType, Line, Names};
+use model::{GROUND, Network, POWER, PULLUP};
+use names::{KnownNames, NODE_CELLS};
+use std::marker::Model;
+use text::{DeviceType, Line, Names, Span};
 
 // The cells for transistors: the most transistors, and one more, since a device is entered before it is counted.
-pub const WIRE_CELLS: usize = 8193;
+const WIRE_CELLS: usize = 8193;
 
-// How many nodes and transistors were read.
+// The line of a text that offends, counted from 0.
 #[derive(Clone, Copy)]
-pub struct Counts {
-    pub nodes: usize,
-    pub transistors: usize,
+pub struct BadLine {
+    pub line: u32,
 }
 
-// A text is taken, or refused at a line.
-#[derive(Clone, Copy)]
-pub enum Read {
-    Taken(Counts),
-    Refused(usize),
+// What was read of a text. A clause sees the text and the netlist so far. Arrays with counts, since the library has no heap.
+#[derive(Drop)]
+pub struct Netlist<'t> {
+    names: KnownNames<'t>,
+    kinds: [u8; NODE_CELLS],
+    types: [u8; WIRE_CELLS],
+    gates: [u16; WIRE_CELLS],
+    sources: [u16; WIRE_CELLS],
+    drains: [u16; WIRE_CELLS],
+    transistors: u16,
 }
 
-fn type_number(t: DeviceType) -> u8
-    ensures { result ≡ type_number t }
+impl<'t> Model for Netlist<'t> {
+    ghost use Rattle.model.specs.Net.{net_of};
+    ghost use Rattle.devices.specs.Tables.{SoFar, in_tables, Roomed};
+
+    ghost Value = { SoFar };
+
+    ghost view = { λ a. in_tables a.names (net_of a.kinds a.types a.gates a.sources a.drains) a.transistors };
+
+    ghost invariant = { λ a. Roomed a.names (net_of a.kinds a.types a.gates a.sources a.drains) a.transistors };
+}
+
+// Vdd is power and Gnd ground; others are normal.
+#[tactic(auto, using(crate::proofs::Spelling::equal_same), unfolding(text::specs::Netlist::kind_of))]
+fn kind_of(name: &[u8]) -> u8
+    ensures { result ≡ kind_of name.now }
 {
-    match t {
-        DeviceType::N => 0,
-        DeviceType::P => 1,
-        DeviceType::D => 2,
+    if name == b"Vdd".as_slice() {
+        POWER
+    } else if name == b"Gnd".as_slice() {
+        GROUND
+    } else {
+        0
     }
 }
 
 fn is_rail(kind: u8) -> bool
     ensures { result ≡ rail kind }
 {
-    if kind == GROUND {
-        return true;
-    }
-    kind == POWER
+    kind == GROUND || kind == POWER
 }
 
-// Whether one end, of that kind, is power, and the gate is at the other.
-fn hangs(kind: u8, gate: usize, other: usize) -> bool
-    ensures { result ≡ (eqb kind 4 && eqb gate other) }
-{
-    if kind != POWER {
-        return false;
-    }
-    gate == other
-}
-
-// Whether a d device is the load of the node at its gate.
-fn is_load(gate: usize, source: usize, drain: usize, kinds: &[u8; NODE_CELLS]) -> bool
-    requires { (gate < 4099) × (source < 4099) × (drain < 4099) }
-    ensures { result ≡ pulls DeviceType.D gate source drain kinds.now }
-{
-    if is_rail(kinds[gate]) {
-        return false;
-    }
-    if hangs(kinds[source], gate, drain) {
-        return true;
-    }
-    hangs(kinds[drain], gate, source)
-}
-
-// Whether a device makes the node at its gate a pullup.
-fn pulls_up(
-    t: DeviceType,
-    gate: usize,
-    source: usize,
-    drain: usize,
-    kinds: &[u8; NODE_CELLS],
-) -> bool
-    requires { (gate < 4099) × (source < 4099) × (drain < 4099) }
-    ensures { result ≡ pulls t gate source drain kinds.now }
-{
-    match t {
-        DeviceType::N => false,
-        DeviceType::P => false,
-        DeviceType::D => is_load(gate, source, drain, kinds),
-    }
-}
-
-// Enters a device between numbered nodes.
-fn join(
-    kinds: &mut [u8; NODE_CELLS],
-    types: &mut [u8; WIRE_CELLS],
-    gates: &mut [u16; WIRE_CELLS],
-    sources: &mut [u16; WIRE_CELLS],
-    drains: &mut [u16; WIRE_CELLS],
-    counts: Counts,
-    t: DeviceType,
-    gate: usize,
-    source: usize,
-    drain: usize,
-) -> Counts
-    requires { let net = net_of kinds.old types.old gates.old sources.old drains.old in
-        Roomed net × (counts.nodes ≤ 4099) × (counts.transistors < 8193) × (gate < counts.nodes) × (source < counts.nodes) × (drain < counts.nodes) }
-    ensures made { let net = net_of kinds.old types.old gates.old sources.old drains.old in
-        net_at result (net_of kinds.new types.new gates.new sources.new drains.new) ≡ joined t gate source drain (net_at counts net) }
-    ensures roomed { Roomed (net_of kinds.new types.new gates.new sources.new drains.new) }
-    ensures few { (result.nodes ≡ counts.nodes) × (result.transistors ≤ counts.transistors + 1) }
-{
-    if pulls_up(t, gate, source, drain, kinds) {
-        kinds[gate] = PULLUP;
-        return counts;
-    }
-    let n = counts.transistors;
-    types[n] = type_number(t);
-    gates[n] = gate as u16;
-    sources[n] = source as u16;
-    drains[n] = drain as u16;
-    Counts {
-        nodes: counts.nodes,
-        transistors: n + 1,
-    }
-}
-
-// Enters a device by its names: the gate is numbered before the source before the drain.
-fn add_device(
-    text: &[u8],
-    starts: &mut [u16; NODE_CELLS],
-    sizes: &mut [u8; NODE_CELLS],
-    kinds: &mut [u8; NODE_CELLS],
-    heads: &mut [u16; CHAINS],
-    nexts: &mut [u16; NODE_CELLS],
-    types: &mut [u8; WIRE_CELLS],
-    gates: &mut [u16; WIRE_CELLS],
-    sources: &mut [u16; WIRE_CELLS],
-    drains: &mut [u16; WIRE_CELLS],
-    counts: Counts,
-    t: DeviceType,
-    names: Names,
-) -> Counts
-    requires { let net = net_of kinds.old types.old gates.old sources.old drains.old in
-        Linked text.now counts.nodes starts.old sizes.old heads.old nexts.old × Roomed net × (counts.nodes ≤ 4096) × (counts.transistors ≤ 8192) × (length text.now ≤ 65535) × AllFit (length text.now) names }
-    ensures linked { Linked text.now result.nodes starts.new sizes.new heads.new nexts.new }
-    ensures roomed { Roomed (net_of kinds.new types.new gates.new sources.new drains.new) }
-    ensures made { let before = netlist_at counts starts.old sizes.old (net_of kinds.old types.old gates.old sources.old drains.old) in
-        netlist_at result starts.new sizes.new (net_of kinds.new types.new gates.new sources.new drains.new) ≡ device text.now t names before }
-    ensures few { (result.nodes ≤ 4099) × (result.transistors ≤ 8193) }
-{
-    let transistors = counts.transistors;
-    let gate = names::number(
-        text,
-        starts,
-        sizes,
-        kinds,
-        heads,
-        nexts,
-        counts.nodes,
-        names.gate,
-    );
-    let source = names::number(
-        text,
-        starts,
-        sizes,
-        kinds,
-        heads,
-        nexts,
-        gate.count,
-        names.source,
-    );
-    let drain = names::number(
-        text,
-        starts,
-        sizes,
-        kinds,
-        heads,
-        nexts,
-        source.count,
-        names.drain,
-    );
-    join(
-        kinds,
-        types,
-        gates,
-        sources,
-        drains,
-        Counts {
-            nodes: drain.count,
-            transistors,
-        },
-        t,
-        gate.number,
-        source.number,
-        drain.number,
-    )
-}
-
-// Enters what a line adds.
-fn add_line(
-    text: &[u8],
-    starts: &mut [u16; NODE_CELLS],
-    sizes: &mut [u8; NODE_CELLS],
-    kinds: &mut [u8; NODE_CELLS],
-    heads: &mut [u16; CHAINS],
-    nexts: &mut [u16; NODE_CELLS],
-    types: &mut [u8; WIRE_CELLS],
-    gates: &mut [u16; WIRE_CELLS],
-    sources: &mut [u16; WIRE_CELLS],
-    drains: &mut [u16; WIRE_CELLS],
-    counts: Counts,
-    line: Line,
-) -> Counts
-    requires { let net = net_of kinds.old types.old gates.old sources.old drains.old in
-        Linked text.now counts.nodes starts.old sizes.old heads.old nexts.old × Roomed net × (counts.nodes ≤ 4096) × (counts.transistors ≤ 8192) × (length text.now ≤ 65535) × LineFits (length text.now) line }
-    ensures linked { Linked text.now result.nodes starts.new sizes.new heads.new nexts.new }
-    ensures roomed { Roomed (net_of kinds.new types.new gates.new sources.new drains.new) }
-    ensures made { let before = netlist_at counts starts.old sizes.old (net_of kinds.old types.old gates.old sources.old drains.old) in
-        netlist_at result starts.new sizes.new (net_of kinds.new types.new gates.new sources.new drains.new) ≡ added text.now line before }
-    ensures few { (result.nodes ≤ 4099) × (result.transistors ≤ 8193) }
-{
-    match line {
-        Line::Device(t, names) => add_device(
-            text, starts, sizes, kinds, heads, nexts, types, gates, sources, drains, counts, t,
-            names,
-        ),
-        Line::Skip => counts,
-        Line::Bad => counts,
-    }
-}
-
-fn is_bad(line: Line) -> bool
-    ensures { result ≡ bad line }
-{
-    match line {
-        Line::Device(_, _) => false,
-        Line::Skip => false,
-        Line::Bad => true,
-    }
-}
-
-// Whether a line offends: it is bad, or there is no room for what is there with it.
-fn offends(line: Line, counts: Counts, node_room: usize, wire_room: usize) -> bool
-    ensures { result ≡ (bad line || (ltb node_room counts.nodes || ltb wire_room counts.transistors)) }
-{
-    if is_bad(line) {
-        return true;
-    }
-    if node_room < counts.nodes {
-        return true;
-    }
-    wire_room < counts.transistors
-}
-
-// Reads a text into tables of its own, up to the first line that offends.
-pub fn read_lines(
-    text: &[u8],
-    node_room: usize,
-    wire_room: usize,
-    starts: &mut [u16; NODE_CELLS],
-    sizes: &mut [u8; NODE_CELLS],
-    kinds: &mut [u8; NODE_CELLS],
-    types: &mut [u8; WIRE_CELLS],
-    gates: &mut [u16; WIRE_CELLS],
-    sources: &mut [u16; WIRE_CELLS],
-    drains: &mut [u16; WIRE_CELLS],
-) -> Read
-    requires { let net = net_of kinds.old types.old gates.old sources.old drains.old in
-        (length text.now ≤ 65535) × (node_room ≤ 4096) × (wire_room ≤ 8192) × (length starts.old ≡ 4099) × (length sizes.old ≡ 4099) × Roomed net }
-    ensures read { let net = net_of kinds.new types.new gates.new sources.new drains.new in
-        told result starts.new sizes.new net ≡ reading text.now node_room wire_room }
-    ensures roomy { Roomy node_room wire_room result }
-    ensures long { (length starts.new ≡ 4099) × (length sizes.new ≡ 4099) × Roomed (net_of kinds.new types.new gates.new sources.new drains.new) }
-{
-    let mut heads = [0u16; CHAINS];
-    let mut nexts = [0u16; NODE_CELLS];
-    let mut counts = Counts {
-        nodes: 0,
-        transistors: 0,
-    };
-    let mut from = 0;
-    let mut number = 0;
-    while from < text.len() {
-        let line = scanner::line_at(text, from);
-        counts = add_line(
-            text, starts, sizes, kinds, &mut heads, &mut nexts, types, gates, sources, drains,
-            counts, line,
-        );
-        if offends(line, counts, node_room, wire_room) {
-            return Read::Refused(number);
+impl<'t> Netlist<'t> {
+    // Of a text of which nothing was read.
+    pub fn new(text: &'t [u8]) -> Self
+        requires { length text.now ≤ 65535 }
+        ensures { result ≡ so_far text.now nothing }
+    {
+        Netlist {
+            names: KnownNames::new(text),
+            kinds: [0; NODE_CELLS],
+            types: [0; WIRE_CELLS],
+            gates: [0; WIRE_CELLS],
+            sources: [0; WIRE_CELLS],
+            drains: [0; WIRE_CELLS],
+            transistors: 0,
         }
-        from = scanner::line_end(text, from, line) + 1;
-        number += 1;
     }
-    Read::Taken(counts)
+
+    pub fn names(&self) -> &KnownNames<'t>
+        ensures { result.now ≡ known self.now.text self.now.list.names }
+    {
+        &self.names
+    }
+
+    // How many transistors were read.
+    pub fn transistors(&self) -> usize
+        ensures count { result ≡ transistors self.now.list.net }
+        ensures few { result ≤ WIRE_CELLS }
+    {
+        usize::from(self.transistors)
+    }
+
+    pub fn network(&self) -> Network<'_>
+        ensures net { lent result ≡ self.now.list.net }
+        ensures level { Level self.now.list }
+    {
+        let nodes = self.names.count();
+        let transistors = self.transistors();
+        Network {
+            kinds: &self.kinds[..nodes],
+            types: &self.types[..transistors],
+            gates: &self.gates[..transistors],
+            sources: &self.sources[..transistors],
+            drains: &self.drains[..transistors],
+        }
+    }
+
+    // Numbers a name, with its kind if it is a new one.
+    #[tactic(auto, unfolding(text::specs::Netlist::named))]
+    fn number(&mut self, name: Span) -> usize
+        requires room { length self.old.list.names < NODE_CELLS }
+        requires fits { Fits (length self.old.text) name }
+        ensures number { result ≡ number_of self.old.text self.old.list.names name }
+        ensures entered { self.new ≡ with_nodes self.old (named self.old.text (nodes_of self.old.list) name) }
+        ensures counted { let known = length self.old.list.names in let now = length self.new.list.names in (result < now) × (known ≤ now) × (now ≤ known + 1) }
+    {
+        let known = self.names.count();
+        let number = self.names.number(name);
+        if number == known {
+            self.kinds[number] = kind_of(name.of(self.names.text()));
+        }
+        number
+    }
+
+    // The kind of a node.
+    fn kind(&self, node: usize) -> u8
+        requires { node < length self.now.list.names }
+        ensures { result ≡ at self.now.list.net.kinds node }
+    {
+        self.kinds[node]
+    }
+
+    // Whether a device makes the node at its gate a pullup: it has one end at Vdd and its gate at the other, which is neither rail.
+    #[tactic(auto, unfolding(text::specs::Netlist::pulls))]
+    fn pulls_up(&self, t: DeviceType, gate: usize, source: usize, drain: usize) -> bool
+        requires { let nodes = length self.now.list.names in (gate < nodes) × (source < nodes) × (drain < nodes) }
+        ensures { result ≡ pulls t gate source drain self.now.list.net.kinds }
+    {
+        matches!(t, DeviceType::D)
+            && (self.kind(source) == POWER && gate == drain
+                || self.kind(drain) == POWER && gate == source)
+            && !is_rail(self.kind(gate))
+    }
+
+    // Enters a device between numbered nodes.
+    fn join(&mut self, t: DeviceType, gate: usize, source: usize, drain: usize)
+        requires room { transistors self.old.list.net < WIRE_CELLS }
+        requires numbered { let nodes = length self.old.list.names in (gate < nodes) × (source < nodes) × (drain < nodes) }
+        ensures { self.new ≡ with_net self.old (joined t gate source drain self.old.list.net) }
+    {
+        if self.pulls_up(t, gate, source, drain) {
+            self.kinds[gate] = PULLUP;
+            return;
+        }
+        let number = self.transistors();
+        self.types[number] = u8::from(t);
+        self.gates[number] = gate as u16;
+        self.sources[number] = source as u16;
+        self.drains[number] = drain as u16;
+        self.transistors += 1;
+    }
+
+    // Enters a device by its names: the gate is numbered before the source before the drain.
+    #[tactic(auto, unfolding(text::specs::Netlist::device))]
+    fn add_device(&mut self, t: DeviceType, names: Names)
+        requires room { (length self.old.list.names ≤ 4096) × (transistors self.old.list.net ≤ 8192) }
+        requires fits { AllFit (length self.old.text) names }
+        ensures { self.new ≡ so_far self.old.text (device self.old.text t names self.old.list) }
+    {
+        let gate = self.number(names.gate);
+        let source = self.number(names.source);
+        let drain = self.number(names.drain);
+        self.join(t, gate, source, drain);
+    }
+
+    // Enters what a line adds.
+    #[tactic(auto, unfolding(text::specs::Netlist::added, textlaws::proofs::Lines::LineFits))]
+    fn add_line(&mut self, line: Line)
+        requires room { (length self.old.list.names ≤ 4096) × (transistors self.old.list.net ≤ 8192) }
+        requires fits { LineFits (length self.old.text) line }
+        ensures { self.new ≡ so_far self.old.text (added self.old.text line self.old.list) }
+    {
+        match line {
+            Line::Device(t, names) => self.add_device(t, names),
+            Line::Skip | Line::Bad => {}
+        }
+    }
+
+    // Whether a line offends: it is bad, or there is no room for what is there with it.
+    #[tactic(auto, unfolding(text::specs::Netlist::offends))]
+    fn offends(&self, line: Line, node_room: usize, transistor_room: usize) -> bool
+        ensures { result ≡ offends node_room transistor_room line self.now.list }
+    {
+        matches!(line, Line::Bad)
+            || node_room < self.names.count()
+            || transistor_room < self.transistors()
+    }
+
+    // Forgets what was read. The tables stay as they are: only their fronts, up to the counts, are part of it.
+    fn clear(&mut self)
+        ensures { self.new ≡ so_far self.old.text nothing }
+    {
+        self.names.clear();
+        self.transistors = 0;
+    }
+
+    // Reads the text from its beginning, up to the first line that offends.
+    #[tactic(auto, using(crate::proofs::Midway::midway_start))]
+    pub fn read_lines(&mut self, node_room: usize, transistor_room: usize) -> Result<(), BadLine>
+        requires { (node_room ≤ 4096) × (transistor_room ≤ 8192) }
+        ensures read { told result self.new.list ≡ reading self.old.text node_room transistor_room }
+        ensures roomy { IfOk result (λ _. (length self.new.list.names ≤ node_room) × (transistors self.new.list.net ≤ transistor_room)) }
+        ensures small { IfErr result (λ bad. bad.line ≤ 65535) }
+    {
+        self.clear();
+        let text = self.names.text();
+        // A line begins where the one before ends: no `for` goes over them, and they are counted beside it.
+        let mut from = 0;
+        let mut line_number: u32 = 0;
+        while from < text.len() {
+            let line = scanner::line_at(text, from);
+            self.add_line(line);
+            if self.offends(line, node_room, transistor_room) {
+                return Err(BadLine { line: line_number });
+            }
+            from = scanner::line_end(text, from, line) + 1;
+            line_number += 1;
+        }
+        Ok(())
+    }
 }

@@ -1,5 +1,5 @@
 // The door to C: the entries under C names, each with its four numbers written through `answer`. include/twistdory.h is its manual.
-// A slice passes as a pointer and a length in elements.
+// A slice passes as a pointer and a length in elements. C lends each table by itself, so only here do they stand side by side.
 #![tactic(auto)]
 
 ghost use Rattle.std.specs.Prelude.{◌≡◌, [], ◌∷◌};
@@ -10,7 +10,7 @@ ghost use Rattle.model.specs.Entries.{check_answer, reset_outcome, step_outcome,
 ghost use Rattle.text.specs.Reading.{read_outcome, name_part, names_outcome};
 ghost use Rattle.door.specs.Told.{Told, ToldRead, ToldNames};
 
-use answers::row_of;
+use model::{ChangeList, Network};
 
 #[unsafe(no_mangle)]
 pub extern "C" fn twistdory_check(
@@ -23,14 +23,21 @@ pub extern "C" fn twistdory_check(
 )
     ensures { answer.new ≡ row (check_answer (net_of kinds.now types.now gates.now sources.now drains.now)) }
 {
-    *answer = row_of(twistdory::check(kinds, types, gates, sources, drains));
+    let net = Network {
+        kinds,
+        types,
+        gates,
+        sources,
+        drains,
+    };
+    *answer = twistdory::check(&net).into();
 }
 
 #[unsafe(no_mangle)]
 pub extern "C" fn twistdory_reset(kinds: &[u8], states: &mut [u8], answer: &mut [u32; 4])
     ensures { Told (reset_outcome kinds.now states.old) answer.new states.new [] }
 {
-    *answer = row_of(twistdory::reset(kinds, states));
+    *answer = twistdory::reset(kinds, states).into();
 }
 
 #[unsafe(no_mangle)]
@@ -47,7 +54,14 @@ pub extern "C" fn twistdory_step(
     ensures { let net = net_of kinds.now types.now gates.now sources.now drains.now in
         Told (step_outcome net states.old work.old) answer.new states.new work.new }
 {
-    *answer = row_of(twistdory::step(kinds, states, types, gates, sources, drains, work));
+    let net = Network {
+        kinds,
+        types,
+        gates,
+        sources,
+        drains,
+    };
+    *answer = twistdory::step(&net, states, work).into();
 }
 
 #[unsafe(no_mangle)]
@@ -68,18 +82,18 @@ pub extern "C" fn twistdory_unit_run(
         let changes = changes_of change_nodes.now change_states.now in
         Told (unit_outcome net states.old changes limit work.old) answer.new states.new work.new }
 {
-    *answer = row_of(twistdory::unit_run(
+    let net = Network {
         kinds,
-        states,
         types,
         gates,
         sources,
         drains,
-        change_nodes,
-        change_states,
-        limit,
-        work,
-    ));
+    };
+    let changes = ChangeList {
+        nodes: change_nodes,
+        states: change_states,
+    };
+    *answer = twistdory::unit_run(&net, states, &changes, limit, work).into();
 }
 
 #[unsafe(no_mangle)]
@@ -99,17 +113,18 @@ pub extern "C" fn twistdory_ternary_run(
         let changes = changes_of change_nodes.now change_states.now in
         Told (ternary_outcome net states.old changes work.old) answer.new states.new work.new }
 {
-    *answer = row_of(twistdory::ternary_run(
+    let net = Network {
         kinds,
-        states,
         types,
         gates,
         sources,
         drains,
-        change_nodes,
-        change_states,
-        work,
-    ));
+    };
+    let changes = ChangeList {
+        nodes: change_nodes,
+        states: change_states,
+    };
+    *answer = twistdory::ternary_run(&net, states, &changes, work).into();
 }
 
 #[unsafe(no_mangle)]
@@ -124,10 +139,11 @@ pub extern "C" fn twistdory_read_sim(
 )
     ensures { ToldRead (read_outcome text.now (net_of kinds.old types.old gates.old sources.old drains.old)) answer.new (net_of kinds.new types.new gates.new sources.new drains.new) }
 {
-    *answer = row_of(reader::read_sim(text, kinds, types, gates, sources, drains));
+    *answer = reader::read_sim(text, kinds, types, gates, sources, drains).into();
 }
 
 // The part's offset and length.
+#[tactic(auto, using(reader::proofs::Parts::part_small))]
 #[unsafe(no_mangle)]
 pub extern "C" fn twistdory_node_name(text: &[u8], number: u32, part: &mut [u32; 2])
     ensures { let name = name_part text.now number in
@@ -146,5 +162,5 @@ pub extern "C" fn twistdory_node_names(
 )
     ensures { ToldNames (names_outcome text.now starts.old sizes.old) answer.new starts.new sizes.new }
 {
-    *answer = row_of(reader::node_names(text, starts, sizes));
+    *answer = reader::node_names(text, starts, sizes).into();
 }

@@ -5,7 +5,7 @@ use native.Mathlib.Omega.{arith}
 use native.Mathlib.Numerals.{add-one}
 use mathlib.Core.Path.{◌≡◌, refl, ap, ◌∙◌, sym}
 use mathlib.Core.Bool.{true, false, not, cond}
-use mathlib.Core.Logic.{◌⊎◌, inl, inr}
+use mathlib.Core.Logic.{◌⊎◌, ◌≢◌, inl, inr}
 use mathlib.Core.List.{List, [], ◌++◌}
 use lib.ListN.{length}
 use lib.Dec.{eqb}
@@ -16,13 +16,16 @@ use Rattle.model.specs.Entries.{first_changed}
 use Rattle.wavelaws.proofs.Iterating.{iter_suc}
 use Rattle.laws.proofs.Settle.{settle_says}
 use Rattle.basis.specs.Cells.{Spared}
-use Rattle.basis.specs.Steps.{Stepping, Evaluated, Ended}
-use Rattle.basis.proofs.Steps.{StepSized, evaluated_states, stops, goes}
+use Rattle.basis.specs.Steps.{Stepping, Evaluated}
+use Rattle.basis.proofs.Steps.{StepSized, evaluated_states, rests, stops, goes}
+use Rattle.runs.specs.Results.{EndedAs}
+use Rattle.std.proofs.Common.{Ok, Err}
 use Rattle.waves.specs.Dump.{each, value_line, time_line, change_line, step_block, block_after}
 use Rattle.wavelaws.proofs.Rows.{each_same, each-longer, each_fits}
-use Rattle.lettering.specs.Writing.{Fits, Wrote}
-use Rattle.lettering.proofs.Writes.{wrote_as, wrote_next}
-use Rattle.dumping.specs.Runs.{holds, blocks, Shown}
+use Rattle.lettering.specs.Writing.{HasRoom, Writes}
+use Rattle.lettering.specs.declared.Writer.{Writer}
+use Rattle.lettering.proofs.Writes.{writes_as, writes_next}
+use Rattle.dumping.specs.Runs.{blocks, Measured}
 
 -- a run never counts less than it began with
 counts_on : (f : List ℕ → List ℕ) (fuel k : ℕ) (s : List ℕ) → k ≤ (settle f fuel k s).count
@@ -53,11 +56,14 @@ module _ (by : Stepping) (limit : ℕ) (s₀ w₀ : List ℕ) where
     fit = R.states_long ∙ long
 
     -- it is the last look
-    pub ends_here : (eqb p (length s) ≡ true) ⊎ (count ≡ limit) → Ended by run w₀ (eqb p (length s)) p count s w'
-    ends_here h = stops E fit sized first limit R.to_go R.spared h
+    pub settled_here : p ≡ length s → EndedAs by run w₀ (Ok count) s w'
+    settled_here e = rests E fit sized first limit R.to_go R.spared e
+
+    pub moving_here : p ≢ length s → count ≡ limit → EndedAs by run w₀ (Err (record { place = p; count = count })) s w'
+    moving_here moves e = stops E fit sized first limit R.to_go R.spared moves e
 
     -- or it takes effect
-    module _ (moves : eqb p (length s) ≡ false) (below : count < limit) where
+    module _ (moves : p ≢ length s) (below : count < limit) where
       pub reached_next : {s' : List ℕ} → s' ≡ tab (length s) (at w') → length s' ≡ length s → length w' ≡ length w → Reached (count + 1) s' w'
       reached_next {s'} e l m = record {
         low = omega arith;
@@ -88,30 +94,34 @@ module _ (by : Stepping) (limit : ℕ) (s₀ w₀ : List ℕ) where
 
       -- measured: it does not fit, or less room is free
       pub no_room : {room free size : ℕ} → free + length (each count block) ≡ room → size ≡ length (step_block (count + 1) s w') → free < size
-          → false ≡ holds room (blocks by.next s₀ run)
-      no_room {room} e z l = sym (ap not (lt-ltb room (length (blocks by.next s₀ run)) (omega (arith, block_fits))))
+          → Measured by room (blocks by.next s₀ run) w₀ false w'
+      no_room {room} e z l = record {
+        tells = sym (ap not (lt-ltb room (length (blocks by.next s₀ run)) (omega (arith, block_fits))));
+        spared = λ k b. E.after k b ∙ R.spared k b;
+      }
 
       pub less_room : {room free size : ℕ} → free + length (each count block) ≡ room → size ≡ length (step_block (count + 1) s w') → size ≤ free
           → free - size + length (each (count + 1) block) ≡ room
       less_room e z l = rw add-one (omega (arith, each-longer count block, ap length block_here))
 
       -- written: there is room, and one block more
-      pub block_room : {out₀ out : List ℕ} {start end : ℕ} → Fits out₀ start (blocks by.next s₀ run) → length out ≡ length out₀ → Wrote out₀ start (each count block) end out
-          → Fits out end (step_block (count + 1) s w')
-      block_room f l v = omega (arith, v.goes_on, block_fits)
+      pub block_room : {out₀ out : Writer} → HasRoom out₀ (blocks by.next s₀ run) → Writes out₀ (each count block) out → HasRoom out (step_block (count + 1) s w')
+      block_room f v = omega (arith, block_fits)
 
-      pub wrote_block : {out₀ out out' : List ℕ} {start end next : ℕ} → Wrote out₀ start (each count block) end out → Wrote out end (step_block (count + 1) s w') next out'
-          → Wrote out₀ start (each (count + 1) block) next out'
-      wrote_block v x = wrote_next block count v (wrote_as block_here x)
+      pub writes_block : {out₀ out out' : Writer} → Writes out₀ (each count block) out → Writes out (step_block (count + 1) s w') out' → Writes out₀ (each (count + 1) block) out'
+      writes_block v x = writes_next block count v (writes_as block_here x)
 
-    module _ (h : (eqb p (length s) ≡ true) ⊎ (count ≡ limit)) where
+    module _ (h : (p ≡ length s) ⊎ ((p ≢ length s) × (count ≡ limit))) where
       counted : count ≡ run.count
-      counted = (ends_here h).count
+      counted = elim h [ inl e ↦ (settled_here e).count | inr e ↦ (moving_here e.0 e.1).count ]
 
       -- measured: all of it fits
-      pub room_enough : {room : ℕ} (free : ℕ) → free + length (each count block) ≡ room → true ≡ holds room (blocks by.next s₀ run)
-      room_enough {room} free e = sym (ap not (le-ltb room (length (blocks by.next s₀ run)) (rw (sym counted) (omega arith))))
+      pub room_enough : {room : ℕ} (free : ℕ) → free + length (each count block) ≡ room → Measured by room (blocks by.next s₀ run) w₀ true w'
+      room_enough {room} free e = record {
+        tells = sym (ap not (le-ltb room (length (blocks by.next s₀ run)) (rw (sym counted) (omega arith))));
+        spared = λ k b. E.after k b ∙ R.spared k b;
+      }
 
       -- written: the blocks are the run's
-      pub wrote_blocks : {out₀ out : List ℕ} {start end : ℕ} → Wrote out₀ start (each count block) end out → Shown by run (blocks by.next s₀ run) w₀ out₀ start (eqb p (length s)) p count end s w' out
-      wrote_blocks v = record { ended = ends_here h; wrote = wrote_as (ap (λ (n : ℕ). each n block) counted) v }
+      pub writes_blocks : {out₀ out : Writer} → Writes out₀ (each count block) out → Writes out₀ (blocks by.next s₀ run) out
+      writes_blocks v = writes_as (ap (λ (n : ℕ). each n block) counted) v

@@ -1,8 +1,10 @@
 -- Runs whose dump is measured, or written as they go, of any step. Assumes nothing.
-use Rattle.std.specs.Prelude.{ℕ, ◌≡◌, Bool, not, List, length, ltb}
+use Rattle.std.specs.Prelude.{ℕ, ◌≡◌, Bool, not, List, Result, length, ltb}
 use Rattle.model.specs.Run.{Ran}
 use Rattle.basis.specs.Cells.{Spared}
-use Rattle.basis.specs.Steps.{Stepping, Ended}
+use Rattle.basis.specs.Steps.{Stepping}
+use Rattle.runs.specs.Results.{EndedAs}
+use Rattle.runs.specs.declared.Moving.{Moving}
 use Rattle.waves.specs.Dump.{each, block_after}
 use Rattle.lettering.specs.Writing.{Wrote}
 
@@ -21,6 +23,6 @@ module _ (by : Stepping) where
     pub spared : Spared by.used w w'
 
   -- steps ended as the definition's run does, and a text of them was written
-  pub record Shown (run : Ran) (text w out : List ℕ) (place : ℕ) (b : Bool) (p k next : ℕ) (s' w' out' : List ℕ) : Type 0 where
-    pub ended : Ended by run w b p k s' w'
+  pub record Shown (run : Ran) (text w out : List ℕ) (place : ℕ) (r : Result ℕ Moving) (next : ℕ) (s' w' out' : List ℕ) : Type 0 where
+    pub ended : EndedAs by run w r s' w'
     pub wrote : Wrote out place text next out'

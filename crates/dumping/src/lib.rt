@@ -3,49 +3,40 @@
 
 ghost use Rattle.std.specs.Prelude.{◌≤◌, ◌≡◌, length};
 ghost use Rattle.model.specs.Bounds.{highest_limit};
-ghost use Rattle.model.specs.Net.{net_of, step};
-ghost use Rattle.model.specs.Run.{changes_of, settle, unit_steps};
+ghost use Rattle.model.specs.Lent.{lent, asked};
+ghost use Rattle.model.specs.Net.{nodes, step};
+ghost use Rattle.model.specs.Run.{settle, unit_steps};
 ghost use Rattle.basis.specs.Sound.{Checked, Named};
 ghost use Rattle.basis.specs.Steps.{rule_one};
+ghost use Rattle.runs.specs.Results.{EndedAs};
 ghost use Rattle.waves.specs.Dump.{unit_dump};
-ghost use Rattle.lettering.specs.Writing.{Fits};
+ghost use Rattle.lettering.specs.Writing.{Fits, HasRoom, Writes};
 ghost use Rattle.dumping.specs.Runs.{blocks, Measured, Shown};
 
-use model::MOST_NODES;
-use runs::{Ran, limit_of};
+use lettering::Writer;
+use model::{ChangeList, MOST_NODES, Network};
+use runs::{Moving, limit_of};
 
-// How a run ended, and the place after what was written.
+// How a run ended, as `runs` has it, and the place after what was written.
 #[derive(Clone, Copy)]
 pub struct Written {
-    pub ran: Ran,
+    pub ran: Result<u32, Moving>,
     pub end: usize,
 }
 
 // Whether the room holds the blocks of the steps until settled, at most `limit` of them. It stops at the first that it does not hold.
-fn steps_fit(
-    kinds: &[u8],
-    states: &mut [u8],
-    types: &[u8],
-    gates: &[u16],
-    sources: &[u16],
-    drains: &[u16],
-    work: &mut [u16],
-    limit: u32,
-    room: usize,
-) -> bool
-    requires { let net = net_of kinds.now types.now gates.now sources.now drains.now in
-        Checked net states.old (length work.old) × (limit ≤ highest_limit) }
-    ensures { let net = net_of kinds.now types.now gates.now sources.now drains.now in
-        let run = settle (step net) limit 0 states.old in
-        Measured (rule_one net) room (blocks (step net) states.old run) work.old result work.new }
+fn steps_fit(net: &Network, states: &mut [u8], limit: u32, work: &mut [u16], room: usize) -> bool
+    requires { Checked (lent net.now) states.old (length work.old) × (limit ≤ highest_limit) }
+    ensures { let next = step (lent net.now) in
+        Measured (rule_one (lent net.now)) room (blocks next states.old (settle next limit 0 states.old)) work.old result work.new }
 {
+    // The loop of `runs::settle`, with a block in each turn. Settle with a closure would need clauses for what each call leaves, longer than this.
     let mut count = 0;
     let mut free = room;
     loop {
-        stepper::evaluate(kinds, states, types, gates, sources, drains, work);
+        stepper::evaluate(net, states, work);
         let place = cells::first_changed(states, work);
-        let ends = place == states.len() as u32;
-        if ends || count == limit {
+        if place == states.len() as u32 || count == limit {
             return true;
         }
         let block = blocks::step_length(count as usize + 1, states, work);
@@ -60,159 +51,83 @@ fn steps_fit(
 
 // Steps until settled, at most `limit` of them, a block for each. The step that alters nothing has none.
 fn write_steps(
-    kinds: &[u8],
+    net: &Network,
     states: &mut [u8],
-    types: &[u8],
-    gates: &[u16],
-    sources: &[u16],
-    drains: &[u16],
-    work: &mut [u16],
     limit: u32,
-    out: &mut [u8],
-    start: usize,
-) -> Written
-    requires { let net = net_of kinds.now types.now gates.now sources.now drains.now in
-        let run = settle (step net) limit 0 states.old in
-        Checked net states.old (length work.old) × (limit ≤ highest_limit) × Fits out.old start (blocks (step net) states.old run) }
-    ensures { let net = net_of kinds.now types.now gates.now sources.now drains.now in
-        let run = settle (step net) limit 0 states.old in
-        let ran = result.ran in
-        Shown (rule_one net) run (blocks (step net) states.old run) work.old out.old start ran.ends ran.place ran.count result.end states.new work.new out.new }
+    work: &mut [u16],
+    out: &mut Writer,
+) -> Result<u32, Moving>
+    requires { let next = step (lent net.now) in
+        Checked (lent net.now) states.old (length work.old) × (limit ≤ highest_limit)
+        × HasRoom out.old (blocks next states.old (settle next limit 0 states.old)) }
+    ensures ended { let run = settle (step (lent net.now)) limit 0 states.old in
+        EndedAs (rule_one (lent net.now)) run work.old result states.new work.new }
+    ensures wrote { let next = step (lent net.now) in
+        Writes out.old (blocks next states.old (settle next limit 0 states.old)) out.new }
 {
+    // The loop of `runs::settle`, as above.
     let mut count = 0;
-    let mut end = start;
     loop {
-        stepper::evaluate(kinds, states, types, gates, sources, drains, work);
+        stepper::evaluate(net, states, work);
         let place = cells::first_changed(states, work);
-        let ends = place == states.len() as u32;
-        if ends || count == limit {
-            let ran = Ran { ends, place, count };
-            return Written { ran, end };
+        if place == states.len() as u32 {
+            return Ok(count);
         }
-        end = blocks::put_step(out, end, count as usize + 1, states, work);
+        if count == limit {
+            return Err(Moving { place, count });
+        }
+        blocks::put_step(out, count as usize + 1, states, work);
         cells::store(states, work);
         count += 1;
     }
 }
 
-// Whether the room holds the dump of a unit run, tried on a table of as many states.
-fn run_fits_on(
-    trial: &mut [u8],
-    kinds: &[u8],
-    states: &[u8],
-    types: &[u8],
-    gates: &[u16],
-    sources: &[u16],
-    drains: &[u16],
-    nodes: &[u16],
-    news: &[u8],
-    limit: u32,
-    work: &mut [u16],
-    room: usize,
-) -> bool
-    requires { let net = net_of kinds.now types.now gates.now sources.now drains.now in
-        let changes = changes_of nodes.now news.now in
-        Checked net states.now (length work.old) × Named changes (length kinds.now) × (limit ≤ highest_limit)
-        × (length trial.old ≡ length states.now) }
-    ensures { let net = net_of kinds.now types.now gates.now sources.now drains.now in
-        let dump = unit_dump (step net) states.now (changes_of nodes.now news.now) limit in
-        Measured (rule_one net) room dump work.old result work.new }
-{
-    copies::copy_bytes(trial, states, states.len());
-    cells::enter(trial, nodes, news);
-    let front = blocks::front_length(trial);
-    if room < front {
-        return false;
-    }
-    steps_fit(
-        kinds,
-        trial,
-        types,
-        gates,
-        sources,
-        drains,
-        work,
-        limit_of(limit),
-        room - front,
-    )
-}
-
 // Whether the room holds the dump of a unit run. The states are not touched.
 pub fn run_fits(
-    kinds: &[u8],
+    net: &Network,
     states: &[u8],
-    types: &[u8],
-    gates: &[u16],
-    sources: &[u16],
-    drains: &[u16],
-    nodes: &[u16],
-    news: &[u8],
+    changes: &ChangeList,
     limit: u32,
     work: &mut [u16],
     room: usize,
 ) -> bool
-    requires { let net = net_of kinds.now types.now gates.now sources.now drains.now in
-        let changes = changes_of nodes.now news.now in
-        Checked net states.now (length work.old) × Named changes (length kinds.now) × (limit ≤ highest_limit) }
-    ensures { let net = net_of kinds.now types.now gates.now sources.now drains.now in
-        let dump = unit_dump (step net) states.now (changes_of nodes.now news.now) limit in
-        Measured (rule_one net) room dump work.old result work.new }
+    requires { let net = lent net.now in
+        Checked net states.now (length work.old) × Named (asked changes.now) (nodes net) × (limit ≤ highest_limit) }
+    ensures { let net = lent net.now in
+        Measured (rule_one net) room (unit_dump (step net) states.now (asked changes.now) limit) work.old result work.new }
 {
     let mut area = [0u8; MOST_NODES];
-    let n = states.len();
-    run_fits_on(
-        &mut area[0..n],
-        kinds,
-        states,
-        types,
-        gates,
-        sources,
-        drains,
-        nodes,
-        news,
-        limit,
-        work,
-        room,
-    )
+    let trial = &mut area[..states.len()];
+    trial.copy_from_slice(states);
+    cells::enter(trial, changes);
+    let front = blocks::front_length(trial);
+    room >= front && steps_fit(net, trial, limit_of(limit), work, room - front)
 }
 
 // A unit run with its dump: the changes are entered, the header and time 0 are written, then steps follow.
 pub fn write_run(
-    kinds: &[u8],
+    net: &Network,
     states: &mut [u8],
-    types: &[u8],
-    gates: &[u16],
-    sources: &[u16],
-    drains: &[u16],
-    nodes: &[u16],
-    news: &[u8],
+    changes: &ChangeList,
     limit: u32,
     work: &mut [u16],
     out: &mut [u8],
 ) -> Written
-    requires { let net = net_of kinds.now types.now gates.now sources.now drains.now in
-        let changes = changes_of nodes.now news.now in
-        Checked net states.old (length work.old) × Named changes (length kinds.now) × (limit ≤ highest_limit)
-        × Fits out.old 0 (unit_dump (step net) states.old changes limit) }
-    ensures { let net = net_of kinds.now types.now gates.now sources.now drains.now in
-        let changes = changes_of nodes.now news.now in
-        let run = unit_steps (step net) states.old changes limit in
-        let ran = result.ran in
-        Shown (rule_one net) run (unit_dump (step net) states.old changes limit) work.old out.old 0 ran.ends ran.place ran.count result.end states.new work.new out.new }
+    requires { let net = lent net.now in
+        Checked net states.old (length work.old) × Named (asked changes.now) (nodes net) × (limit ≤ highest_limit)
+        × Fits out.old 0 (unit_dump (step net) states.old (asked changes.now) limit) }
+    ensures { let next = step (lent net.now) in
+        let run = unit_steps next states.old (asked changes.now) limit in
+        let dump = unit_dump next states.old (asked changes.now) limit in
+        Shown (rule_one (lent net.now)) run dump work.old out.old 0 result.ran result.end states.new work.new out.new }
 {
-    cells::enter(states, nodes, news);
-    let headed = blocks::put_header(out, 0, states.len());
-    let started = blocks::put_start(out, headed, states);
-    write_steps(
-        kinds,
-        states,
-        types,
-        gates,
-        sources,
-        drains,
-        work,
-        limit_of(limit),
-        out,
-        started,
-    )
+    cells::enter(states, changes);
+    let mut writer = Writer { out, place: 0 };
+    blocks::put_header(&mut writer, states.len());
+    blocks::put_start(&mut writer, states);
+    let ran = write_steps(net, states, limit_of(limit), work, &mut writer);
+    Written {
+        ran,
+        end: writer.place,
+    }
 }

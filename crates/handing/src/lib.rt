@@ -1,176 +1,77 @@
-// What was read into tables of the call's own is handed over to the lent ones: the fronts of the tables, the part that is a node's name, the
-// names of all nodes. A refusal hands over nothing.
+// What was read of a text is handed over to the lent tables: the network, the part that is a node's name, the names of all nodes.
 #![tactic(auto)]
 
-ghost use Rattle.std.specs.Prelude.{◌≤◌, ◌≡◌, [], length, take};
-ghost use Rattle.model.specs.Net.{net_of, alone};
+ghost use Rattle.std.specs.Prelude.{◌≤◌, ◌≡◌, length};
+ghost use Rattle.model.specs.Net.{net_of, transistors};
 ghost use Rattle.basis.specs.Sound.{Sized};
-ghost use Rattle.text.specs.Reading.{over, filled, read_by, name_in, listed_by};
-ghost use Rattle.devices.specs.Tables.{net_at, Roomed, told, Roomy};
-ghost use Rattle.handing.specs.Handing.{handed, listed};
+ghost use Rattle.text.specs.Bytes.{span_at};
+ghost use Rattle.text.specs.Netlist.{taken};
+ghost use Rattle.text.specs.Reading.{counted, read_by, read_into, listed_by, list_into};
 
-use devices::{Counts, Read, WIRE_CELLS};
+use devices::Netlist;
 use model::Answer;
-use names::NODE_CELLS;
 use text::Span;
 
-// The first n bytes of one table become those of another.
-fn copy_bytes(to: &mut [u8], from: &[u8], n: usize)
-    requires { (n ≤ length to.old) × (n ≤ length from.now) }
-    ensures { to.new ≡ over (take n from.now) to.old }
+// The name of an unused number: no Option, since the C interface answers such a number with the empty part.
+pub const EMPTY_PART: Span = Span { start: 0, size: 0 };
+
+// The answer to a text that is taken.
+fn done(list: &Netlist<'_>) -> Answer
+    ensures { result ≡ counted list.now.list }
 {
-    let mut i = 0;
-    while i < n {
-        to[i] = from[i];
-        i += 1;
+    Answer::Done {
+        place: 0,
+        first: list.names().count() as u32,
+        second: list.transistors() as u32,
     }
 }
 
-// The same of cells.
-fn copy_cells(to: &mut [u16], from: &[u16], n: usize)
-    requires { (n ≤ length to.old) × (n ≤ length from.now) }
-    ensures { to.new ≡ over (take n from.now) to.old }
-{
-    let mut i = 0;
-    while i < n {
-        to[i] = from[i];
-        i += 1;
-    }
-}
-
-// The lent tables take what was read.
-fn fill(
-    kinds: &mut [u8],
-    types: &mut [u8],
-    gates: &mut [u16],
-    sources: &mut [u16],
-    drains: &mut [u16],
-    read_kinds: &[u8; NODE_CELLS],
-    read_types: &[u8; WIRE_CELLS],
-    read_gates: &[u16; WIRE_CELLS],
-    read_sources: &[u16; WIRE_CELLS],
-    read_drains: &[u16; WIRE_CELLS],
-    counts: Counts,
-)
-    requires { let own = net_of read_kinds.now read_types.now read_gates.now read_sources.now read_drains.now in
-        Sized (net_of kinds.old types.old gates.old sources.old drains.old) × (counts.nodes ≤ length kinds.old) × (counts.transistors ≤ length types.old) × Roomed own }
-    ensures { let own = net_of read_kinds.now read_types.now read_gates.now read_sources.now read_drains.now in
-        (net_of kinds.new types.new gates.new sources.new drains.new) ≡ filled (net_at counts own) (net_of kinds.old types.old gates.old sources.old drains.old) }
-{
-    let n = counts.nodes;
-    let t = counts.transistors;
-    copy_bytes(kinds, read_kinds, n);
-    copy_bytes(types, read_types, t);
-    copy_cells(gates, read_gates, t);
-    copy_cells(sources, read_sources, t);
-    copy_cells(drains, read_drains, t);
-}
-
-// What was read goes into the lent tables; a refusal leaves them as they came.
+// What was read goes into the fronts of the lent tables.
+#[tactic(auto, unfolding(text::specs::Reading::read_into, text::specs::Reading::over))]
 pub fn hand_over(
     kinds: &mut [u8],
     types: &mut [u8],
     gates: &mut [u16],
     sources: &mut [u16],
     drains: &mut [u16],
-    read_kinds: &[u8; NODE_CELLS],
-    read_types: &[u8; WIRE_CELLS],
-    read_gates: &[u16; WIRE_CELLS],
-    read_sources: &[u16; WIRE_CELLS],
-    read_drains: &[u16; WIRE_CELLS],
-    read: Read,
+    list: &Netlist<'_>,
 ) -> Answer
-    requires { let own = net_of read_kinds.now read_types.now read_gates.now read_sources.now read_drains.now in
-        Sized (net_of kinds.old types.old gates.old sources.old drains.old) × Roomy (length kinds.old) (length types.old) read × Roomed own }
-    ensures { let own = net_of read_kinds.now read_types.now read_gates.now read_sources.now read_drains.now in
-        read_by result (net_of kinds.new types.new gates.new sources.new drains.new) ≡ handed read own (net_of kinds.old types.old gates.old sources.old drains.old) }
+    requires sized { Sized (net_of kinds.old types.old gates.old sources.old drains.old) }
+    requires room { (length list.now.list.names ≤ length kinds.old) × (transistors list.now.list.net ≤ length types.old) }
+    ensures { let net = net_of kinds.old types.old gates.old sources.old drains.old in
+        read_by result (net_of kinds.new types.new gates.new sources.new drains.new) ≡ read_into (taken list.now.list) net }
 {
-    match read {
-        Read::Refused(line) => Answer::Text(line as u32),
-        Read::Taken(counts) => {
-            let first = counts.nodes as u32;
-            let second = counts.transistors as u32;
-            fill(
-                kinds,
-                types,
-                gates,
-                sources,
-                drains,
-                read_kinds,
-                read_types,
-                read_gates,
-                read_sources,
-                read_drains,
-                counts,
-            );
-            Answer::Done {
-                place: 0,
-                first,
-                second,
-            }
-        }
-    }
+    let read = list.network();
+    kinds[..read.kinds.len()].copy_from_slice(read.kinds);
+    types[..read.types.len()].copy_from_slice(read.types);
+    gates[..read.gates.len()].copy_from_slice(read.gates);
+    sources[..read.sources.len()].copy_from_slice(read.sources);
+    drains[..read.drains.len()].copy_from_slice(read.drains);
+    done(list)
 }
 
-// Where the name of a node first appears, by what was read.
-pub fn span_in(read: Read, starts: &[u16], sizes: &[u8], number: usize) -> Span
-    requires { Roomy 4096 8192 read × (length starts.now ≡ 4099) × (length sizes.now ≡ 4099) }
-    ensures { result ≡ name_in (told read starts.now sizes.now (alone [])) number }
+// Where the name of a node first appears: the empty part for an unused number.
+pub fn span_in(list: &Netlist<'_>, number: usize) -> Span
+    ensures { result ≡ span_at list.now.list.names number }
 {
-    match read {
-        Read::Refused(_) => Span { start: 0, size: 0 },
-        Read::Taken(counts) => {
-            if counts.nodes <= number {
-                return Span { start: 0, size: 0 };
-            }
-            Span {
-                start: starts[number] as usize,
-                size: sizes[number] as usize,
-            }
-        }
+    let names = list.names();
+    if names.count() <= number {
+        return EMPTY_PART;
     }
+    names.span(number)
 }
 
-// The lent tables take the names, if they hold them all.
-fn list_names(
-    starts: &mut [u16],
-    sizes: &mut [u8],
-    read_starts: &[u16; NODE_CELLS],
-    read_sizes: &[u8; NODE_CELLS],
-    counts: Counts,
-) -> Answer
-    requires { Roomy 4096 8192 (Read.Taken counts) × (length read_starts.now ≡ 4099) × (length read_sizes.now ≡ 4099) }
-    ensures { listed_by result starts.new sizes.new ≡ listed (Read.Taken counts) read_starts.now read_sizes.now starts.old sizes.old }
+// The names go into the fronts of the lent tables, if these hold them all.
+#[tactic(auto, unfolding(text::specs::Reading::list_into, text::specs::Reading::over))]
+pub fn list_over(starts: &mut [u16], sizes: &mut [u8], list: &Netlist<'_>) -> Answer
+    ensures { listed_by result starts.new sizes.new ≡ list_into (taken list.now.list) starts.old sizes.old }
 {
-    let n = counts.nodes;
-    if starts.len() < n {
+    let names = list.names();
+    let count = names.count();
+    if starts.len() < count || sizes.len() < count {
         return Answer::Size;
     }
-    if sizes.len() < n {
-        return Answer::Size;
-    }
-    copy_cells(starts, read_starts, n);
-    copy_bytes(sizes, read_sizes, n);
-    Answer::Done {
-        place: 0,
-        first: n as u32,
-        second: counts.transistors as u32,
-    }
-}
-
-// The names that were read go into the lent tables; a refusal leaves them as they came.
-pub fn list_over(
-    starts: &mut [u16],
-    sizes: &mut [u8],
-    read_starts: &[u16; NODE_CELLS],
-    read_sizes: &[u8; NODE_CELLS],
-    read: Read,
-) -> Answer
-    requires { Roomy 4096 8192 read × (length read_starts.now ≡ 4099) × (length read_sizes.now ≡ 4099) }
-    ensures { listed_by result starts.new sizes.new ≡ listed read read_starts.now read_sizes.now starts.old sizes.old }
-{
-    match read {
-        Read::Refused(line) => Answer::Text(line as u32),
-        Read::Taken(counts) => list_names(starts, sizes, read_starts, read_sizes, counts),
-    }
+    starts[..count].copy_from_slice(names.starts());
+    sizes[..count].copy_from_slice(names.sizes());
+    done(list)
 }

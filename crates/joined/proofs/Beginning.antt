@@ -91,6 +91,3 @@ module _ {n code from to k : ℕ} {w u : List ℕ} (L : Listed n from to w) (z :
     where
       go : {y : List ℕ} → Begun n a code u y → BegunAll n code from w (k + 1) y
       go begun = begun_next
-
-pub begun_end : {n code from to k : ℕ} {w u : List ℕ} → k ≡ to → BegunAll n code from w k u → BegunAll n code from w to u
-begun_end e z = rw e at z

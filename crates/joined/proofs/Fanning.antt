@@ -5,16 +5,17 @@ use native.Mathlib.Nat.{le_refl, le_trans}
 use native.Mathlib.Decide.{ℕ_discrete, dec_lt}
 use mathlib.Core.Path.{◌≡◌, refl, sym, ap, ◌∙◌, subst}
 use mathlib.Core.Bool.{Bool, true, false, cond, ◌&&◌, true≢false, and-eq-true_iff}
-use mathlib.Core.List.{List, []}
+use mathlib.Core.List.{List}
 use lib.ListN.{length}
 use lib.Dec.{eqb}
 use borrow.Author.Tests.{eqb-true}
 use Rattle.model.specs.Places.{at}
-use Rattle.branches.specs.Branch.{prefix, Wires, near, far, branches, degree, degrees, entry, wires_by, Last, none, some}
+use Rattle.branches.specs.Branch.{prefix, Wires, near, far, branches, degree, degrees, entry, Last, none, some}
+use Rattle.branches.specs.declared.Wiring.{Wiring}
 use Rattle.branches.proofs.Degrees.{total-next, total-part, prefix_same, cond_few, degree_last}
 use Rattle.branches.proofs.Lists.{last_low}
 use Rattle.joined.specs.declared.Found.{Found}
-use Rattle.joined.specs.Sets.{Joined, on, Untaken}
+use Rattle.joined.specs.Sets.{Joined, on, Untaken, wired}
 use Rattle.joined.specs.Floods.{touched, Followed, passed, along, Chain, start, next, Fanned, fanned}
 use Rattle.joined.specs.Kept.{spent, Visitable, Ready, Member, queue, Spread, Done, Emptying, Fannable}
 use Rattle.joined.proofs.Sums.{spent-degrees}
@@ -26,7 +27,10 @@ entry_says : (b : Bool) (h e : ℕ) → e ≡ 2 * h + 2 + cond b 1 0 → (e / 2 
 entry_says true h e q = (omega arith, λ t. refl, λ t. absurd (t (omega arith)))
 entry_says false h e q = (omega arith, λ t. absurd (omega arith), λ t. refl)
 
-module _ (G : Wires) (w₀ : List ℕ) (v from : ℕ) where
+module _ (W : Wiring) (listed unsure : ℕ → Bool) (w₀ : List ℕ) (v from : ℕ) where
+  abbrev G : Wires
+  G = wired W listed unsure
+
   -- one branch was visited
   pub record Follow (h : ℕ) (w : List ℕ) (f : Found) (x : List ℕ) (g : Found) : Type 0 where
     pub spread : Spread G w₀ v from x g.tail g.code
@@ -39,7 +43,7 @@ module _ (G : Wires) (w₀ : List ℕ) (v from : ℕ) where
 
   module _ (R : Ready G w₀) where
     follow_law : {h e : ℕ} {w x : List ℕ} {f g : Found} → Spread G w₀ v from w f.tail f.code → h < branches G → G.listed h ≡ true → e ≡ entry G h → Untaken G w₀ (near G h) → Joined G v (near G h)
-        → Followed G.size G.sources G.drains e w f x g → Follow h w f x g
+        → Followed W e w f x g → Follow h w f x g
     follow_law {h} {e} z hl o q u j (passed p) = record {
       spread = z;
       grown = record { more = le_refl _; old = λ j l. refl; level = λ p. refl; sure = λ t. absurd (true≢false (sym t)) };
@@ -107,7 +111,7 @@ module _ (G : Wires) (w₀ : List ℕ) (v from : ℕ) where
         part_go i p q r s (no e) (no d) = done_grown y.grown (z.part i (omega arith) q r s)
 
     -- the branch that is next, and that the entry after it is lower
-    pub chained_next : {e : ℕ} {w x : List ℕ} {f g : Found} → Chained k a w f e → (e ≡ 0 → ⊥) → Followed G.size G.sources G.drains e w f x g
+    pub chained_next : {e : ℕ} {w x : List ℕ} {f g : Found} → Chained k a w f e → (e ≡ 0 → ⊥) → Followed W e w f x g
         → Chained k a x g (at x (4 * G.size + (e / 2 - 1))) × (at x (4 * G.size + (e / 2 - 1)) < e)
     chained_next {e} {w} {x} {f} {g} z p s = go z.last
       where
@@ -136,10 +140,10 @@ module _ (G : Wires) (w₀ : List ℕ) (v from : ℕ) where
             cell = ap (λ (c : ℕ). at x (4 * G.size + c)) (entry_says (G.unsure h) h e q).0 ∙ follow.spread.after (4 * G.size + h) (omega arith)
 
     -- it can be visited
-    pub chained_visitable : {w : List ℕ} {f : Found} {e : ℕ} → Chained k a w f e → (e ≡ 0 → ⊥) → Visitable G.size G.sources G.drains e w f
+    pub chained_visitable : {w : List ℕ} {f : Found} {e : ℕ} → Chained k a w f e → (e ≡ 0 → ⊥) → Visitable W e w f
     chained_visitable {w} {f} {e} z p = go z.last
       where
-        go : Last G a z.upto e → Visitable G.size G.sources G.drains e w f
+        go : Last G a z.upto e → Visitable W e w f
         go (none q n) = absurd (p q)
         go (some h q l n o m) =
             let y = z.partway in
@@ -161,7 +165,7 @@ module _ (G : Wires) (w₀ : List ℕ) (v from : ℕ) where
               );
             }
 
-    pub chain_law : {w : List ℕ} {f : Found} {x : List ℕ} {g : Found} {e : ℕ} → Chained k a w f (at w (3 * G.size + a)) → Chain G.size G.sources G.drains a w f x g e → Chained k a x g e
+    pub chain_law : {w : List ℕ} {f : Found} {x : List ℕ} {g : Found} {e : ℕ} → Chained k a w f (at w (3 * G.size + a)) → Chain W a w f x g e → Chained k a x g e
     chain_law z start = z
     chain_law z (next c p s) = (chained_next (chain_law z c) p s).0
 
@@ -194,7 +198,7 @@ module _ (G : Wires) (w₀ : List ℕ) (v from : ℕ) where
       quiet_go y j p q (no e) = z.quiet (both y).0 j p (omega arith)
 
   -- after the last: the next node of the queue is to be taken
-  pub fan_law : {k : ℕ} {w x : List ℕ} {f g : Found} → Emptying G w₀ v from k w f → k < f.tail → Fanned G.size G.sources G.drains (queue G w k) w f x g → Emptying G w₀ v from (k + 1) x g
+  pub fan_law : {k : ℕ} {w x : List ℕ} {f g : Found} → Emptying G w₀ v from k w f → k < f.tail → Fanned W (queue G w k) w f x g → Emptying G w₀ v from (k + 1) x g
   fan_law {k} {w} {x} {f} {g} z l (fanned b t {e} c q) = go end.last
     where
       end : Chained k (queue G w k) x g e
@@ -219,21 +223,18 @@ module _ (G : Wires) (w₀ : List ℕ) (v from : ℕ) where
           done_go j h p i r s m (no d) u = end.partway.done j h p (omega arith) r s m
 
 -- the code's loop over the list of node a
-module _ {n : ℕ} {A B : List ℕ} {a : ℕ} {b : Bool} {w x : List ℕ} {f g : Found} {e : ℕ} (F : Fannable n A B a w f) (t : b ≡ (f.sure && eqb (at w a) 0)) (c : Chain n A B a w (touched b f) x g e) where
-  abbrev wires : Wires
-  wires = wires_by n A B [] F.listed F.unsure
+module _ (W : Wiring) {a : ℕ} {b : Bool} {w x : List ℕ} {f g : Found} {e : ℕ} (F : Fannable W a w f) (t : b ≡ (f.sure && eqb (at w a) 0)) (c : Chain W a w (touched b f) x g e) where
+  chained : Chained W F.listed F.unsure F.before F.v F.from F.k a x g e
+  chained = chain_law W F.listed F.unsure F.before F.v F.from F.emptying.ready F.emptying.low (chained_first W F.listed F.unsure F.before F.v F.from F.emptying F.waits F.node t) c
 
-  chained : Chained wires F.before F.v F.from F.k a x g e
-  chained = chain_law wires F.before F.v F.from F.emptying.ready F.emptying.low (chained_first wires F.before F.v F.from F.emptying F.waits F.node t) c
+  pub fan_visitable : (e ≡ 0 → ⊥) → Visitable W e x g
+  fan_visitable p = chained_visitable W F.listed F.unsure F.before F.v F.from F.emptying.ready F.emptying.low chained p
 
-  pub fan_visitable : (e ≡ 0 → ⊥) → Visitable n A B e x g
-  fan_visitable p = chained_visitable wires F.before F.v F.from F.emptying.ready F.emptying.low chained p
-
-  pub fan_less : (e ≡ 0 → ⊥) → {y : List ℕ} {h : Found} → Followed n A B e x g y h → at y (4 * n + (e / 2 - 1)) < e
-  fan_less p s = (chained_next wires F.before F.v F.from F.emptying.ready F.emptying.low chained p s).1
+  pub fan_less : (e ≡ 0 → ⊥) → {y : List ℕ} {h : Found} → Followed W e x g y h → at y (4 * W.nodes + (e / 2 - 1)) < e
+  fan_less p s = (chained_next W F.listed F.unsure F.before F.v F.from F.emptying.ready F.emptying.low chained p s).1
 
 -- a node that waits is one
-pub fan_inside : {n : ℕ} {A B : List ℕ} {a : ℕ} {w : List ℕ} {f : Found} → Fannable n A B a w f → (a < n) × (n ≤ 4096) × (4 * n ≤ length w)
+pub fan_inside : {W : Wiring} {a : ℕ} {w : List ℕ} {f : Found} → Fannable W a w f → (a < W.nodes) × (W.nodes ≤ 4096) × (4 * W.nodes ≤ length w)
 fan_inside F =
     let z = F.emptying in (
       rw F.node (z.spread.members F.k z.low F.waits).0.0,

@@ -3,14 +3,16 @@ use Prim.Native.Nat.{ℕ, ◌+◌, ◌*◌, ◌≤◌, ◌<◌}
 use native.Mathlib.Omega.{arith}
 use native.Mathlib.Nat.{le_refl}
 use mathlib.Core.Path.{◌≡◌, refl, sym, subst}
-use mathlib.Core.List.{List, []}
+use mathlib.Core.Bool.{Bool}
+use mathlib.Core.List.{List}
 use mathlib.Core.Logic.{inr}
 use lib.ListN.{length}
 use Rattle.model.specs.Places.{at}
-use Rattle.branches.specs.Branch.{prefix, Wires, degrees, wires_by}
+use Rattle.branches.specs.Branch.{prefix, Wires, degrees}
+use Rattle.branches.specs.declared.Wiring.{Wiring}
 use Rattle.branches.proofs.Degrees.{prefix_same}
 use Rattle.joined.specs.declared.Found.{Found}
-use Rattle.joined.specs.Sets.{here, Untaken, Sum, one}
+use Rattle.joined.specs.Sets.{here, Untaken, Sum, one, wired}
 use Rattle.joined.specs.Floods.{Reached, Emptied, begins, takes}
 use Rattle.joined.specs.Kept.{spent, Room, Ready, Spread, Emptying, Fannable, Floodable}
 use Rattle.joined.proofs.Sums.{spent_few}
@@ -52,27 +54,28 @@ module _ (G : Wires) {w : List ℕ} {v : ℕ} (f : Found) (R : Ready G w) (u : U
       z = reached G R spread_none u.0 here r
 
 -- nodes are taken from the queue
-pub emptied_law : (G : Wires) {w₀ w : List ℕ} {v from : ℕ} {f : Found} {x : List ℕ} {g : Found} {k : ℕ} → Emptying G w₀ v from from w f → Emptied G.size G.sources G.drains from w f x g k → Emptying G w₀ v from k x g
-emptied_law G z begins = z
-emptied_law G z (takes e l s) = fan_law G _ _ _ (emptied_law G z e) l s
+pub emptied_law : (W : Wiring) (listed unsure : ℕ → Bool) {w₀ w : List ℕ} {v from : ℕ} {f : Found} {x : List ℕ} {g : Found} {k : ℕ} → Emptying (wired W listed unsure) w₀ v from from w f → Emptied W from w f x g k
+    → Emptying (wired W listed unsure) w₀ v from k x g
+emptied_law W listed unsure z begins = z
+emptied_law W listed unsure z (takes e l s) = fan_law W listed unsure _ _ _ (emptied_law W listed unsure z e) l s
 
 -- the code's loop over the queue
-module _ {n : ℕ} {A B : List ℕ} {v : ℕ} {w : List ℕ} {f : Found} (F : Floodable n A B v w f) where
+module _ {W : Wiring} {v : ℕ} {w : List ℕ} {f : Found} (F : Floodable W v w f) where
   abbrev wires : Wires
-  wires = wires_by n A B [] F.listed F.unsure
+  wires = wired W F.listed F.unsure
 
-  pub flood_room : Room n w f.tail
+  pub flood_room : Room W.nodes w f.tail
   flood_room = spread-room wires F.ready (spread_none wires f F.ready F.untaken F.code F.worth)
 
-  pub flood_inside : v < n
+  pub flood_inside : v < W.nodes
   flood_inside = F.untaken.0
 
-  module _ {u x : List ℕ} {h g : Found} {k : ℕ} (r : Reached n v w f u h) (e : Emptied n A B f.tail u h x g k) where
+  module _ {u x : List ℕ} {h g : Found} {k : ℕ} (r : Reached W.nodes v w f u h) (e : Emptied W f.tail u h x g k) where
     emptying : Emptying wires w v f.tail k x g
-    emptying = emptied_law wires (emptying_none wires f F.ready F.untaken F.code F.worth F.paid r) e
+    emptying = emptied_law W F.listed F.unsure (emptying_none wires f F.ready F.untaken F.code F.worth F.paid r) e
 
-    pub flood_few : (g.tail ≤ n) × (n ≤ 4096) × (4 * n ≤ length x)
-    flood_few = let z = spread-room wires F.ready emptying.spread in (omega (arith, z.counted, spent_few x n n), z.few, z.fits)
+    pub flood_few : (g.tail ≤ W.nodes) × (W.nodes ≤ 4096) × (4 * W.nodes ≤ length x)
+    flood_few = let z = spread-room wires F.ready emptying.spread in (omega (arith, z.counted, spent_few x W.nodes W.nodes), z.few, z.fits)
 
-    pub flood_fannable : k < g.tail → Fannable n A B (at x (2 * n + k)) x g
+    pub flood_fannable : k < g.tail → Fannable W (at x (2 * W.nodes + k)) x g
     flood_fannable l = record { listed = F.listed; unsure = F.unsure; before = w; v = v; from = f.tail; k = k; emptying = emptying; waits = l; node = refl }

@@ -30,11 +30,6 @@ pub joins_by : {n b m : ℕ} {w : List ℕ} (f : Found) → least_telling ≤ at
 joins_by {n} {b} {m} {w} f o e =
     subst (λ (y : ℕ). Reached n b w f (queued n b w f.tail) (record { tail = f.tail + 1; code = y; sure = f.sure; visits = f.visits })) (sym e) (joins o)
 
--- reaching a node visits no branch
-pub reached_visits : {n b : ℕ} {w : List ℕ} {f : Found} {x : List ℕ} {g : Found} → Reached n b w f x g → g.visits ≡ f.visits
-reached_visits (taken t) = refl
-reached_visits (joins o) = refl
-
 -- what stays as the queue grows
 pub record Grown (G : Wires) (w : List ℕ) (f : Found) (x : List ℕ) (g : Found) : Type 0 where
   pub more : f.tail ≤ g.tail

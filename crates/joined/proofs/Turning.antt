@@ -5,17 +5,18 @@ use native.Mathlib.Nat.{le_refl, le_trans}
 use native.Mathlib.Decide.{ℕ_discrete}
 use mathlib.Core.Path.{◌≡◌, refl, sym, ap, ◌∙◌, subst}
 use mathlib.Core.Bool.{Bool, true, false, true≢false}
-use mathlib.Core.List.{List, []}
+use mathlib.Core.List.{List}
 use mathlib.Core.Logic.{◌⊎◌, inl, inr, ◌≢◌}
 use lib.ListN.{length, set, length-set}
 use lib.Seq.{get_or-set_same, get_or-set_other}
 use Rattle.model.specs.Places.{at}
-use Rattle.branches.specs.Branch.{prefix, Wires, wires_by, near, far, branches, degrees, followed, Last, none, some}
+use Rattle.branches.specs.Branch.{prefix, Wires, near, far, branches, degrees, followed, Last, none, some}
+use Rattle.branches.specs.declared.Wiring.{Wiring}
 use Rattle.branches.proofs.Degrees.{total-zero, total_ones, total-part, prefix_same}
 use Rattle.branches.specs.Code.{least_telling, telling, begin}
 use Rattle.joined.specs.declared.Found.{Found}
 use Rattle.joined.specs.declared.Parts.{Parts}
-use Rattle.joined.specs.Sets.{Joined, here, Untaken, Startable, one, Parted}
+use Rattle.joined.specs.Sets.{Joined, here, Untaken, Startable, one, Parted, wired}
 use Rattle.joined.specs.Floods.{Begun, begun, BegunAll, Flooded, flooded, opened, Turned, past, alone, quiet, keeps, Turns, nothing, turn}
 use Rattle.joined.specs.Kept.{spent, Listed, Ready, Member, queue, Emptying, Kept, Quiet, Taking, Floodable, Turnable}
 use Rattle.joined.proofs.Sums.{spent_le, spent_few, spent-degrees}
@@ -189,22 +190,19 @@ pub visits_few : {G : Wires} {w₀ w : List ℕ} {v : ℕ} {p : Parts} → Takin
 visits_few {G} {w = w} T = le_trans T.paid (spent-degrees G w G.size G.size)
 
 -- the code's one turn
-module _ {n : ℕ} {A B : List ℕ} {v : ℕ} {w : List ℕ} {p : Parts} (F : Turnable n A B v w p) (o : least_telling ≤ at w (n + v)) where
+module _ {W : Wiring} {v : ℕ} {w : List ℕ} {p : Parts} (F : Turnable W v w p) (o : least_telling ≤ at w (W.nodes + v)) where
   abbrev wires : Wires
-  wires = wires_by n A B [] F.listed F.unsure
+  wires = wired W F.listed F.unsure
 
   ready : Ready wires w
   ready = ready_taking F.startable F.taking
 
-  pub turn_told : telling 1 1 ≤ at w (n + v)
-  turn_told = (ready.told v (F.inside, o)).0
-
-  pub turn_floodable : Floodable n A B v w (opened (at w (n + v)) p)
+  pub turn_floodable : Floodable W v w (opened (at w (W.nodes + v)) p)
   turn_floodable = record { listed = F.listed; unsure = F.unsure; ready = ready; untaken = (F.inside, o); code = refl; worth = F.taking.worth; paid = F.taking.paid }
 
-  pub turn_listed : {u : List ℕ} {f : Found} → Flooded n A B v w (opened (at w (n + v)) p) u f → Listed n p.kept f.tail u × (telling 1 1 ≤ f.code)
+  pub turn_listed : {u : List ℕ} {f : Found} → Flooded W v w (opened (at w (W.nodes + v)) p) u f → Listed W.nodes p.kept f.tail u × (telling 1 1 ≤ f.code)
   turn_listed {u} {f} (flooded r e l) =
-      let z = emptied_law wires (emptying_none wires _ ready (F.inside, o) refl F.taking.worth F.taking.paid r) e in
+      let z = emptied_law W F.listed F.unsure (emptying_none wires _ ready (F.inside, o) refl F.taking.worth F.taking.paid r) e in
       let few = flood_few turn_floodable r e in (
         record {
           few = few.1;
@@ -217,8 +215,11 @@ module _ {n : ℕ} {A B : List ℕ} {v : ℕ} {w : List ℕ} {p : Parts} (F : Tu
         z.spread.told.0,
       )
 
-module _ {G : Wires} {w₀ : List ℕ} (S : Startable G w₀) where
-  turned_law : {w x : List ℕ} {v : ℕ} {p q : Parts} → Taking G w₀ v w p → v < G.size → Turned G.size G.sources G.drains v w p x q → Taking G w₀ (v + 1) x q
+module _ (W : Wiring) {listed unsure : ℕ → Bool} {w₀ : List ℕ} (S : Startable (wired W listed unsure) w₀) where
+  abbrev G : Wires
+  G = wired W listed unsure
+
+  turned_law : {w x : List ℕ} {v : ℕ} {p q : Parts} → Taking G w₀ v w p → v < G.size → Turned W v w p x q → Taking G w₀ (v + 1) x q
   turned_law {w} {x} {v} {p} T vn (past t) = record {
     long = T.long;
     after = T.after;
@@ -240,9 +241,9 @@ module _ {G : Wires} {w₀ : List ℕ} (S : Startable G w₀) where
       below_go u l (no e) = T.below u (omega arith)
   turned_law T vn (alone o e b) = settled_law S T vn (settled-alone _ (ready_taking S T) (vn, o) T.worth T.paid (kept_few G T) e b)
   turned_law {p = p} T vn (quiet o (flooded r e l) b t) =
-      settled_law S T vn (settled_quiet _ (ready_taking S T) (vn, o) T.worth T.paid (emptied_law G (emptying_none G _ (ready_taking S T) (vn, o) refl T.worth T.paid r) e) l b t)
+      settled_law S T vn (settled_quiet _ (ready_taking S T) (vn, o) T.worth T.paid (emptied_law W listed unsure (emptying_none G _ (ready_taking S T) (vn, o) refl T.worth T.paid r) e) l b t)
   turned_law {p = p} T vn (keeps o (flooded r e l) b) =
-      settled_law S T vn (settled_keeps _ (ready_taking S T) (vn, o) T.worth T.paid (emptied_law G (emptying_none G _ (ready_taking S T) (vn, o) refl T.worth T.paid r) e) l b)
+      settled_law S T vn (settled_keeps _ (ready_taking S T) (vn, o) T.worth T.paid (emptied_law W listed unsure (emptying_none G _ (ready_taking S T) (vn, o) refl T.worth T.paid r) e) l b)
 
   -- both ends of a branch are nodes that tell of sources
   ends_far : (h : ℕ) → h < branches G → G.listed h ≡ true → Untaken G w₀ (far G h)
@@ -265,7 +266,7 @@ module _ {G : Wires} {w₀ : List ℕ} (S : Startable G w₀) where
     spread = λ j h l. absurd (omega arith);
   }
 
-  pub turns_law : {x : List ℕ} {v : ℕ} {q : Parts} → Turns G.size G.sources G.drains w₀ v x q → Taking G w₀ v x q
+  pub turns_law : {x : List ℕ} {v : ℕ} {q : Parts} → Turns W w₀ v x q → Taking G w₀ v x q
   turns_law nothing = taking_none
   turns_law (turn t l s) = turned_law (turns_law t) l s
 

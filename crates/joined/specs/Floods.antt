@@ -2,6 +2,7 @@
 use Rattle.std.specs.Prelude.{ℕ, ◌+◌, ◌*◌, ◌-◌, ◌/◌, ◌%◌, ◌≤◌, ◌<◌, ◌≡◌, Bool, true, false, ◌&&◌, List, length, set, eqb}
 use Rattle.model.specs.Places.{at}
 use Rattle.branches.specs.Branch.{end_of}
+use Rattle.branches.specs.declared.Wiring.{Wiring}
 use Rattle.branches.specs.Code.{least_telling, together, begin}
 use Rattle.joined.specs.declared.Found.{Found}
 use Rattle.joined.specs.declared.Parts.{Parts}
@@ -42,40 +43,40 @@ module _ (n : ℕ) where
     pub after : (j : ℕ) → 2 * n ≤ j → at w' j ≡ at w j
     pub long : length w' ≡ length w
 
-  module _ (A B : List ℕ) where
-    -- one entry of a list
-    pub data Followed (e : ℕ) (w : List ℕ) (f : Found) : List ℕ → Found → Type 0 where
-      passed : e % 2 ≡ 1 → Followed e w f w (visited (touched false f))
-      along : {u : List ℕ} {g : Found} (b : ℕ) → (e % 2 ≡ 1 → ⊥) → b ≡ end_of B A (e / 2 - 1) → Reached b w f u g → Followed e w f u (visited g)
+module _ (W : Wiring) where
+  -- one entry of a list
+  pub data Followed (e : ℕ) (w : List ℕ) (f : Found) : List ℕ → Found → Type 0 where
+    passed : e % 2 ≡ 1 → Followed e w f w (visited (touched false f))
+    along : {u : List ℕ} {g : Found} (b : ℕ) → (e % 2 ≡ 1 → ⊥) → b ≡ end_of W.drains.now W.sources.now (e / 2 - 1) → Reached W.nodes b w f u g → Followed e w f u (visited g)
 
-    -- the list of node a, down to the entry that is next
-    pub data Chain (a : ℕ) (w : List ℕ) (f : Found) : List ℕ → Found → ℕ → Type 0 where
-      start : Chain a w f w f (at w (3 * n + a))
-      next : {u x : List ℕ} {g h : Found} {e : ℕ} → Chain a w f u g e → (e ≡ 0 → ⊥) → Followed e u g x h → Chain a w f x h (at x (4 * n + (e / 2 - 1)))
+  -- the list of node a, down to the entry that is next
+  pub data Chain (a : ℕ) (w : List ℕ) (f : Found) : List ℕ → Found → ℕ → Type 0 where
+    start : Chain a w f w f (at w (3 * W.nodes + a))
+    next : {u x : List ℕ} {g h : Found} {e : ℕ} → Chain a w f u g e → (e ≡ 0 → ⊥) → Followed e u g x h → Chain a w f x h (at x (4 * W.nodes + (e / 2 - 1)))
 
-    -- all of it
-    pub data Fanned (a : ℕ) (w : List ℕ) (f : Found) (w' : List ℕ) (g : Found) : Type 0 where
-      fanned : (b : Bool) → b ≡ (f.sure && eqb (at w a) 0) → {e : ℕ} → Chain a w (touched b f) w' g e → e ≡ 0 → Fanned a w f w' g
+  -- all of it
+  pub data Fanned (a : ℕ) (w : List ℕ) (f : Found) (w' : List ℕ) (g : Found) : Type 0 where
+    fanned : (b : Bool) → b ≡ (f.sure && eqb (at w a) 0) → {e : ℕ} → Chain a w (touched b f) w' g e → e ≡ 0 → Fanned a w f w' g
 
-    -- nodes are taken from the queue, from `from` to k
-    pub data Emptied (from : ℕ) (w : List ℕ) (f : Found) : List ℕ → Found → ℕ → Type 0 where
-      begins : Emptied from w f w f from
-      takes : {u x : List ℕ} {g h : Found} {k : ℕ} → Emptied from w f u g k → k < g.tail → Fanned (at u (2 * n + k)) u g x h → Emptied from w f x h (k + 1)
+  -- nodes are taken from the queue, from `from` to k
+  pub data Emptied (from : ℕ) (w : List ℕ) (f : Found) : List ℕ → Found → ℕ → Type 0 where
+    begins : Emptied from w f w f from
+    takes : {u x : List ℕ} {g h : Found} {k : ℕ} → Emptied from w f u g k → k < g.tail → Fanned (at u (2 * W.nodes + k)) u g x h → Emptied from w f x h (k + 1)
 
-    -- until none waits
-    pub data Flooded (v : ℕ) (w : List ℕ) (f : Found) (w' : List ℕ) (g : Found) : Type 0 where
-      flooded : {u : List ℕ} {h : Found} {k : ℕ} → Reached v w f u h → Emptied f.tail u h w' g k → g.tail ≤ k → Flooded v w f w' g
+  -- until none waits
+  pub data Flooded (v : ℕ) (w : List ℕ) (f : Found) (w' : List ℕ) (g : Found) : Type 0 where
+    flooded : {u : List ℕ} {h : Found} {k : ℕ} → Reached W.nodes v w f u h → Emptied f.tail u h w' g k → g.tail ≤ k → Flooded v w f w' g
 
-    -- the set of node v
-    pub data Turned (v : ℕ) (w : List ℕ) (p : Parts) : List ℕ → Parts → Type 0 where
-      past : at w (n + v) < least_telling → Turned v w p w p
-      alone : {x : List ℕ} → least_telling ≤ at w (n + v) → at w (3 * n + v) ≡ 0 → Begun v (at w (n + v)) w x → Turned v w p x p
-      quiet : {u x : List ℕ} {f : Found} → least_telling ≤ at w (n + v) → Flooded v w (opened (at w (n + v)) p) u f → BegunAll f.code p.kept u f.tail x → f.sure ≡ true
-          → Turned v w p x (record { kept = p.kept; visits = f.visits })
-      keeps : {u x : List ℕ} {f : Found} → least_telling ≤ at w (n + v) → Flooded v w (opened (at w (n + v)) p) u f → BegunAll f.code p.kept u f.tail x
-          → Turned v w p x (record { kept = f.tail; visits = f.visits })
+  -- the set of node v
+  pub data Turned (v : ℕ) (w : List ℕ) (p : Parts) : List ℕ → Parts → Type 0 where
+    past : at w (W.nodes + v) < least_telling → Turned v w p w p
+    alone : {x : List ℕ} → least_telling ≤ at w (W.nodes + v) → at w (3 * W.nodes + v) ≡ 0 → Begun W.nodes v (at w (W.nodes + v)) w x → Turned v w p x p
+    quiet : {u x : List ℕ} {f : Found} → least_telling ≤ at w (W.nodes + v) → Flooded v w (opened (at w (W.nodes + v)) p) u f → BegunAll W.nodes f.code p.kept u f.tail x → f.sure ≡ true
+        → Turned v w p x (record { kept = p.kept; visits = f.visits })
+    keeps : {u x : List ℕ} {f : Found} → least_telling ≤ at w (W.nodes + v) → Flooded v w (opened (at w (W.nodes + v)) p) u f → BegunAll W.nodes f.code p.kept u f.tail x
+        → Turned v w p x (record { kept = f.tail; visits = f.visits })
 
-    -- the sets of the nodes below v
-    pub data Turns (w : List ℕ) : ℕ → List ℕ → Parts → Type 0 where
-      nothing : Turns w 0 w (record { kept = 0; visits = 0 })
-      turn : {u x : List ℕ} {p q : Parts} {v : ℕ} → Turns w v u p → v < n → Turned v u p x q → Turns w (v + 1) x q
+  -- the sets of the nodes below v
+  pub data Turns (w : List ℕ) : ℕ → List ℕ → Parts → Type 0 where
+    nothing : Turns w 0 w (record { kept = 0; visits = 0 })
+    turn : {u x : List ℕ} {p q : Parts} {v : ℕ} → Turns w v u p → v < W.nodes → Turned v u p x q → Turns w (v + 1) x q

@@ -1,11 +1,12 @@
 -- What holds while nodes are parted into sets: which are taken, what is written at them, and how many branches were visited. Assumes nothing.
-use Rattle.std.specs.Prelude.{ℕ, ◌+◌, ◌*◌, ◌-◌, ◌/◌, ◌≤◌, ◌<◌, ◌≡◌, Bool, true, false, cond, List, [], ◌⊎◌, length, ltb}
+use Rattle.std.specs.Prelude.{ℕ, ◌+◌, ◌*◌, ◌-◌, ◌/◌, ◌≤◌, ◌<◌, ◌≡◌, Bool, true, false, cond, List, ◌⊎◌, length, ltb}
 use Rattle.model.specs.Places.{at}
-use Rattle.branches.specs.Branch.{total, prefix, Wires, near, far, branches, degrees, followed, wires_by, end_of, Laid, Linked}
+use Rattle.branches.specs.Branch.{total, prefix, Wires, near, far, branches, degrees, followed, end_of, Laid, Linked}
+use Rattle.branches.specs.declared.Wiring.{Wiring}
 use Rattle.branches.specs.Code.{least_telling, telling, mark, Within}
 use Rattle.joined.specs.declared.Found.{Found}
 use Rattle.joined.specs.declared.Parts.{Parts}
-use Rattle.joined.specs.Sets.{Joined, Untaken, Startable, Sum, SetOf}
+use Rattle.joined.specs.Sets.{Joined, Untaken, Startable, Sum, SetOf, wired}
 
 -- the sum of f over the nodes below m that are taken; their cells start at q
 abbrev pub spent : (ℕ → ℕ) → List ℕ → ℕ → ℕ → ℕ
@@ -18,13 +19,13 @@ pub record Room (n : ℕ) (w : List ℕ) (tail : ℕ) : Type 0 where
   pub counted : tail ≤ spent (λ v. 1) w n n
 
 -- e is the entry of a branch that leads to a node, and there is room to visit it
-pub record Visitable (n : ℕ) (A B : List ℕ) (e : ℕ) (w : List ℕ) (f : Found) : Type 0 where
-  pub room : Room n w f.tail
-  pub fits : 4 * n + 2 * length A ≤ length w
-  pub drains : length B ≡ length A
+pub record Visitable (W : Wiring) (e : ℕ) (w : List ℕ) (f : Found) : Type 0 where
+  pub room : Room W.nodes w f.tail
+  pub fits : 4 * W.nodes + 2 * length W.sources.now ≤ length w
+  pub drains : length W.drains.now ≡ length W.sources.now
   pub least : 2 ≤ e
-  pub branch : e / 2 - 1 < 2 * length A
-  pub end : end_of B A (e / 2 - 1) < n
+  pub branch : e / 2 - 1 < 2 * length W.sources.now
+  pub end : end_of W.drains.now W.sources.now (e / 2 - 1) < W.nodes
   pub few : f.visits < 16384
 
 -- distinct nodes stand in the queue from `from` to `to`
@@ -113,32 +114,32 @@ module _ (G : Wires) where
     pub spread : (j h : ℕ) → j < p.kept → h < branches G → followed G false h ≡ true → near G h ≡ queue w j → Kept w p.kept (far G h)
 
 -- some branches are listed and some are unsure so that the flood of a set has come to node a, which waits in the queue
-pub record Fannable (n : ℕ) (A B : List ℕ) (a : ℕ) (w : List ℕ) (f : Found) : Type 0 where
+pub record Fannable (W : Wiring) (a : ℕ) (w : List ℕ) (f : Found) : Type 0 where
   pub listed : ℕ → Bool
   pub unsure : ℕ → Bool
   pub before : List ℕ
   pub v : ℕ
   pub from : ℕ
   pub k : ℕ
-  pub emptying : Emptying (wires_by n A B [] listed unsure) before v from k w f
+  pub emptying : Emptying (wired W listed unsure) before v from k w f
   pub waits : k < f.tail
-  pub node : a ≡ at w (2 * n + k)
+  pub node : a ≡ at w (2 * W.nodes + k)
 
 -- that the set of v, which is not taken, can be flooded
-pub record Floodable (n : ℕ) (A B : List ℕ) (v : ℕ) (w : List ℕ) (f : Found) : Type 0 where
+pub record Floodable (W : Wiring) (v : ℕ) (w : List ℕ) (f : Found) : Type 0 where
   pub listed : ℕ → Bool
   pub unsure : ℕ → Bool
-  pub ready : Ready (wires_by n A B [] listed unsure) w
-  pub untaken : Untaken (wires_by n A B [] listed unsure) w v
-  pub code : f.code ≡ at w (n + v)
-  pub worth : (g : ℕ → ℕ) → prefix g w (2 * n) f.tail ≤ spent g w n n
-  pub paid : f.visits ≤ spent (degrees (wires_by n A B [] listed unsure)) w n n
+  pub ready : Ready (wired W listed unsure) w
+  pub untaken : Untaken (wired W listed unsure) w v
+  pub code : f.code ≡ at w (W.nodes + v)
+  pub worth : (g : ℕ → ℕ) → prefix g w (2 * W.nodes) f.tail ≤ spent g w W.nodes W.nodes
+  pub paid : f.visits ≤ spent (degrees (wired W listed unsure)) w W.nodes W.nodes
 
 -- that the sets of the nodes below v were taken
-pub record Turnable (n : ℕ) (A B : List ℕ) (v : ℕ) (w : List ℕ) (p : Parts) : Type 0 where
+pub record Turnable (W : Wiring) (v : ℕ) (w : List ℕ) (p : Parts) : Type 0 where
   pub listed : ℕ → Bool
   pub unsure : ℕ → Bool
   pub before : List ℕ
-  pub startable : Startable (wires_by n A B [] listed unsure) before
-  pub taking : Taking (wires_by n A B [] listed unsure) before v w p
-  pub inside : v < n
+  pub startable : Startable (wired W listed unsure) before
+  pub taking : Taking (wired W listed unsure) before v w p
+  pub inside : v < W.nodes

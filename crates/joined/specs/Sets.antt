@@ -2,6 +2,7 @@
 use Rattle.std.specs.Prelude.{ℕ, ◌+◌, ◌*◌, ◌≤◌, ◌<◌, ◌≡◌, Bool, true, false, List, [], length}
 use Rattle.model.specs.Places.{at}
 use Rattle.branches.specs.Branch.{Wires, near, far, branches, followed, Laid, Linked, wires_by}
+use Rattle.branches.specs.declared.Wiring.{Wiring}
 use Rattle.branches.specs.Code.{least_telling, telling, mark, together, Within, begin}
 
 module _ (G : Wires) where
@@ -52,10 +53,13 @@ module _ (G : Wires) where
     pub others : (v : ℕ) → v < G.size → (Untaken w v → ⊥) → (at w' (G.size + v) ≡ at w (G.size + v)) × (at w' v ≡ at w v)
     pub after : (j : ℕ) → 3 * G.size ≤ j → at w' j ≡ at w j
 
--- what the caller of `part_all` brings, and what it gets, over given tables: of any branches that fit the lists
-module _ (n : ℕ) (sources drains : List ℕ) where
+-- what the caller of `part_all` brings, and what it gets, over a given wiring: of any branches that fit the lists
+module _ (W : Wiring) where
+  abbrev pub wired : (ℕ → Bool) → (ℕ → Bool) → Wires
+  wired = wires_by W.nodes W.sources.now W.drains.now []
+
   abbrev pub StartableSome : List ℕ → Type 0
-  StartableSome w = (listed : ℕ → Bool) × (unsure : ℕ → Bool) × Startable (wires_by n sources drains [] listed unsure) w
+  StartableSome w = (listed : ℕ → Bool) × (unsure : ℕ → Bool) × Startable (wired listed unsure) w
 
   abbrev pub PartedAny : List ℕ → List ℕ → ℕ → Type 0
-  PartedAny w w' kept = (listed unsure : ℕ → Bool) → Startable (wires_by n sources drains [] listed unsure) w → Parted (wires_by n sources drains [] listed unsure) w w' kept
+  PartedAny w w' kept = (listed unsure : ℕ → Bool) → Startable (wired listed unsure) w → Parted (wired listed unsure) w w' kept

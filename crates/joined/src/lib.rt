@@ -7,7 +7,7 @@ ghost use Rattle.joined.specs.Sets.{StartableSome, PartedAny};
 ghost use Rattle.joined.specs.Floods.{Reached, Followed, Fanned, Flooded, Begun, BegunAll, Turned};
 ghost use Rattle.joined.specs.Kept.{Room, Visitable, Fannable, Floodable, Listed, Turnable};
 
-use branches::TELLING;
+use branches::{TELLING, Wiring};
 
 // How many nodes are kept, and how many branches were visited.
 #[derive(Clone, Copy)]
@@ -27,6 +27,7 @@ pub struct Found {
 }
 
 // Node b joins the set that is flooded, unless it was taken.
+#[tactic(auto, using(crate::specs::Floods::taken, crate::proofs::Reaching::joins_by))]
 fn reach(work: &mut [u16], n: usize, b: usize, found: Found) -> Found
     requires { Room n work.old found.tail × (b < n) }
     ensures { Reached n b work.old found work.new result }
@@ -36,43 +37,32 @@ fn reach(work: &mut [u16], n: usize, b: usize, found: Found) -> Found
         return found;
     }
     work[n + b] = 0;
-    let tail = found.tail;
-    work[2 * n + tail] = b as u16;
+    work[2 * n + found.tail] = b as u16;
     Found {
-        tail: tail + 1,
+        tail: found.tail + 1,
         code: branches::together(found.code, m),
-        sure: found.sure,
-        visits: found.visits,
+        ..found
     }
 }
 
 // One entry of a node's list: an unsure branch is not followed.
-fn follow(
-    sources: &[u16],
-    drains: &[u16],
-    work: &mut [u16],
-    n: usize,
-    e: usize,
-    found: Found,
-) -> Found
-    requires { Visitable n sources.now drains.now e work.old found }
-    ensures { Followed n sources.now drains.now e work.old found work.new result }
+#[tactic(auto, using(crate::specs::Floods::passed, crate::specs::Floods::along))]
+fn follow(wiring: &Wiring, work: &mut [u16], e: usize, found: Found) -> Found
+    requires { Visitable wiring.now e work.old found }
+    ensures { Followed wiring.now e work.old found work.new result }
 {
     if e % 2 == 1 {
         return Found {
-            tail: found.tail,
-            code: found.code,
             sure: false,
             visits: found.visits + 1,
+            ..found
         };
     }
-    let b = branches::end_of(drains, sources, e / 2 - 1);
-    let r = reach(work, n, b, found);
+    let b = wiring.far(e / 2 - 1);
+    let r = reach(work, wiring.nodes, b, found);
     Found {
-        tail: r.tail,
-        code: r.code,
-        sure: r.sure,
         visits: r.visits + 1,
+        ..r
     }
 }
 
@@ -80,55 +70,46 @@ fn follow(
 fn untouched(sure: bool, offer: u16) -> bool
     ensures { result ≡ (sure && eqb offer 0) }
 {
-    if offer == 0 {
-        return sure;
-    }
-    false
+    sure && offer == 0
 }
 
 // All branches of node a.
-fn fan(sources: &[u16], drains: &[u16], work: &mut [u16], n: usize, a: usize, start: Found) -> Found
-    requires { Fannable n sources.now drains.now a work.old start }
-    ensures { Fanned n sources.now drains.now a work.old start work.new result }
+fn fan(wiring: &Wiring, work: &mut [u16], a: usize, start: Found) -> Found
+    requires { Fannable wiring.now a work.old start }
+    ensures { Fanned wiring.now a work.old start work.new result }
 {
-    let sure = untouched(start.sure, work[a]);
+    let n = wiring.nodes;
     let mut found = Found {
-        tail: start.tail,
-        code: start.code,
-        sure: sure,
-        visits: start.visits,
+        sure: untouched(start.sure, work[a]),
+        ..start
     };
-    let mut e = work[3 * n + a] as usize;
+    let mut e = usize::from(work[3 * n + a]);
     while e != 0 {
-        found = follow(sources, drains, work, n, e, found);
-        e = work[4 * n + (e / 2 - 1)] as usize;
+        found = follow(wiring, work, e, found);
+        e = usize::from(work[4 * n + (e / 2 - 1)]);
     }
     found
 }
 
 // The set of node v, in the queue from `start`'s end on.
-fn flood(
-    sources: &[u16],
-    drains: &[u16],
-    work: &mut [u16],
-    n: usize,
-    v: usize,
-    start: Found,
-) -> Found
-    requires { Floodable n sources.now drains.now v work.old start }
-    ensures { Flooded n sources.now drains.now v work.old start work.new result }
+fn flood(wiring: &Wiring, work: &mut [u16], v: usize, start: Found) -> Found
+    requires { Floodable wiring.now v work.old start }
+    ensures { Flooded wiring.now v work.old start work.new result }
 {
+    let n = wiring.nodes;
     let mut found = reach(work, n, v, start);
     let mut k = start.tail;
+    // The queue grows while it is emptied.
     while k < found.tail {
-        let a = work[2 * n + k] as usize;
-        found = fan(sources, drains, work, n, a, found);
+        let a = usize::from(work[2 * n + k]);
+        found = fan(wiring, work, a, found);
         k += 1;
     }
     found
 }
 
 // Both tables begin at node a, of whose set `code` tells.
+#[tactic(auto, using(crate::proofs::Beginning::begun_by))]
 fn begin_at(work: &mut [u16], n: usize, a: usize, code: u16)
     requires { (n ≤ 4096) × (2 * n ≤ length work.old) × (a < n) × (telling 1 1 ≤ code) }
     ensures { Begun n a code work.old work.new }
@@ -143,26 +124,18 @@ fn begin_all(work: &mut [u16], n: usize, from: usize, to: usize, code: u16)
     requires { Listed n from to work.old × (telling 1 1 ≤ code) }
     ensures { BegunAll n code from work.old to work.new }
 {
-    let mut k = from;
-    while k < to {
-        let a = work[2 * n + k] as usize;
+    for k in from..to {
+        let a = usize::from(work[2 * n + k]);
         begin_at(work, n, a, code);
-        k += 1;
     }
 }
 
 // The set of node v, unless v was taken: it is kept where an unsure branch or an offer touches it.
-fn part(
-    sources: &[u16],
-    drains: &[u16],
-    work: &mut [u16],
-    n: usize,
-    v: usize,
-    parts: Parts,
-) -> Parts
-    requires { Turnable n sources.now drains.now v work.old parts }
-    ensures { Turned n sources.now drains.now v work.old parts work.new result }
+fn part(wiring: &Wiring, work: &mut [u16], v: usize, parts: Parts) -> Parts
+    requires { Turnable wiring.now v work.old parts }
+    ensures { Turned wiring.now v work.old parts work.new result }
 {
+    let n = wiring.nodes;
     let m = work[n + v];
     if m < TELLING {
         return parts;
@@ -171,34 +144,29 @@ fn part(
         begin_at(work, n, v, m);
         return parts;
     }
-    let kept = parts.kept;
+    let Parts { kept, visits } = parts;
     let start = Found {
         tail: kept,
         code: m,
         sure: true,
-        visits: parts.visits,
+        visits,
     };
-    let found = flood(sources, drains, work, n, v, start);
-    let tail = found.tail;
-    let visits = found.visits;
-    begin_all(work, n, kept, tail, found.code);
-    if found.sure {
-        return Parts { kept, visits };
+    let found = flood(wiring, work, v, start);
+    begin_all(work, n, kept, found.tail, found.code);
+    Parts {
+        kept: if found.sure { kept } else { found.tail },
+        visits: found.visits,
     }
-    Parts { kept: tail, visits }
 }
 
 // The sets of all nodes: what both tables begin with, and the nodes of the sets that are kept, at 2n.
-pub fn part_all(sources: &[u16], drains: &[u16], work: &mut [u16], n: usize) -> Parts
-    requires { StartableSome n sources.now drains.now work.old }
-    ensures { let parted = PartedAny n sources.now drains.now in
-        parted work.old work.new result.kept × (result.visits ≤ 2 * length sources.now) }
+pub fn part_all(wiring: &Wiring, work: &mut [u16]) -> Parts
+    requires { StartableSome wiring.now work.old }
+    ensures { PartedAny wiring.now work.old work.new result.kept × (result.visits ≤ 2 * length wiring.now.sources.now) }
 {
     let mut parts = Parts { kept: 0, visits: 0 };
-    let mut v = 0;
-    while v < n {
-        parts = part(sources, drains, work, n, v, parts);
-        v += 1;
+    for v in 0..wiring.nodes {
+        parts = part(wiring, work, v, parts);
     }
     parts
 }

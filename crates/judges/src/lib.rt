@@ -1,202 +1,134 @@
 // The judges of what is lent, one for each entry. Each finds the first rule that is broken, at the first place that breaks it,
-// in the order of the answers' numbers, and writes nothing.
+// in the order of the answers' numbers, and writes nothing. Four end alike but for the refusal that they make of a place: one function for these
+// would take the constructor, with clauses for what it gives, and each call would be as long.
 #![tactic(auto)]
 
 ghost use Rattle.std.specs.Prelude.{◌≤◌, ◌≡◌, [], ◌∷◌, length};
 ghost use Rattle.model.specs.Bounds.{most_nodes};
-ghost use Rattle.model.specs.Run.{changes_of};
-ghost use Rattle.model.specs.Net.{net_of};
+ghost use Rattle.model.specs.Lent.{lent, asked};
 ghost use Rattle.model.specs.Rules.{judge, kind_rule, wire_rule, state_rule, check_rules, reset_rules, step_rules, run_rules, unit_rules, ternary_rules};
 ghost use Rattle.basis.specs.Sound.{Sized, SizedChanges};
 
-use model::{Answer, HIGHEST_KIND, HIGHEST_LIMIT, HIGHEST_STATE, Verdict};
+use model::{Answer, ChangeList, HIGHEST_KIND, HIGHEST_LIMIT, HIGHEST_STATE, Network};
 use sizes::{wrong_check_sizes, wrong_reset_sizes, wrong_run_sizes, wrong_step_sizes};
 use tables::{first_above, first_wrong_change, first_wrong_wire};
 
 // The kinds.
-fn judge_kinds(kinds: &[u8]) -> Verdict
+fn judge_kinds(kinds: &[u8]) -> Result<(), Answer>
     requires { length kinds.now ≤ most_nodes }
     ensures { result ≡ judge (kind_rule kinds.now ∷ []) }
 {
-    let v = first_above(kinds, HIGHEST_KIND);
-    if v < kinds.len() {
-        Verdict::Refused(Answer::Kind(v as u32))
-    } else {
-        Verdict::Accepted
+    match first_above(kinds, HIGHEST_KIND) {
+        Some(node) => Err(Answer::Kind(node as u32)),
+        None => Ok(()),
     }
 }
 
 // The kinds, then the transistors.
-fn judge_tables(
-    kinds: &[u8],
-    types: &[u8],
-    gates: &[u16],
-    sources: &[u16],
-    drains: &[u16],
-) -> Verdict
-    requires { Sized (net_of kinds.now types.now gates.now sources.now drains.now) }
-    ensures { result ≡ judge (kind_rule kinds.now ∷ wire_rule (net_of kinds.now types.now gates.now sources.now drains.now) ∷ []) }
+fn judge_tables(net: &Network) -> Result<(), Answer>
+    requires { Sized (lent net.now) }
+    ensures { let net = lent net.now in result ≡ judge (kind_rule net.kinds ∷ wire_rule net ∷ []) }
 {
-    let verdict = judge_kinds(kinds);
-    let Verdict::Accepted = verdict else {
-        return verdict;
-    };
-    let t = first_wrong_wire(kinds, types, gates, sources, drains);
-    if t < types.len() {
-        Verdict::Refused(Answer::Wire(t as u32))
-    } else {
-        Verdict::Accepted
+    judge_kinds(net.kinds)?;
+    match first_wrong_wire(net) {
+        Some(transistor) => Err(Answer::Wire(transistor as u32)),
+        None => Ok(()),
     }
 }
 
 // The kinds, the transistors, then the states.
-fn judge_contents(
-    kinds: &[u8],
-    states: &[u8],
-    types: &[u8],
-    gates: &[u16],
-    sources: &[u16],
-    drains: &[u16],
-) -> Verdict
-    requires { Sized (net_of kinds.now types.now gates.now sources.now drains.now) × (length states.now ≡ length kinds.now) }
-    ensures { let net = net_of kinds.now types.now gates.now sources.now drains.now in
-        result ≡ judge (kind_rule kinds.now ∷ wire_rule net ∷ state_rule states.now ∷ []) }
+fn judge_contents(net: &Network, states: &[u8]) -> Result<(), Answer>
+    requires { Sized (lent net.now) × (length states.now ≡ length net.now.kinds.now) }
+    ensures { let net = lent net.now in
+        result ≡ judge (kind_rule net.kinds ∷ wire_rule net ∷ state_rule states.now ∷ []) }
 {
-    let verdict = judge_tables(kinds, types, gates, sources, drains);
-    let Verdict::Accepted = verdict else {
-        return verdict;
-    };
-    let v = first_above(states, HIGHEST_STATE);
-    if v < states.len() {
-        Verdict::Refused(Answer::State(v as u32))
-    } else {
-        Verdict::Accepted
+    judge_tables(net)?;
+    match first_above(states, HIGHEST_STATE) {
+        Some(node) => Err(Answer::State(node as u32)),
+        None => Ok(()),
     }
 }
 
 // The kinds, the transistors, the states, then the changes.
-fn judge_run(
-    kinds: &[u8],
-    states: &[u8],
-    types: &[u8],
-    gates: &[u16],
-    sources: &[u16],
-    drains: &[u16],
-    named: &[u16],
-    values: &[u8],
-) -> Verdict
-    requires { let net = net_of kinds.now types.now gates.now sources.now drains.now in
-        Sized net × (length states.now ≡ length kinds.now) × SizedChanges (changes_of named.now values.now) }
-    ensures { let net = net_of kinds.now types.now gates.now sources.now drains.now in
-        result ≡ judge (run_rules net states.now (changes_of named.now values.now)) }
+#[tactic(auto, unfolding(model::specs::Rules::run_rules, model::specs::Rules::change_tests))]
+fn judge_run(net: &Network, states: &[u8], changes: &ChangeList) -> Result<(), Answer>
+    requires { Sized (lent net.now)
+        × (length states.now ≡ length net.now.kinds.now)
+        × SizedChanges (asked changes.now) }
+    ensures { result ≡ judge (run_rules (lent net.now) states.now (asked changes.now)) }
 {
-    let verdict = judge_contents(kinds, states, types, gates, sources, drains);
-    let Verdict::Accepted = verdict else {
-        return verdict;
-    };
-    let e = first_wrong_change(kinds, named, values);
-    if e < named.len() {
-        Verdict::Refused(Answer::Change(e as u32))
-    } else {
-        Verdict::Accepted
+    judge_contents(net, states)?;
+    match first_wrong_change(net.kinds, changes) {
+        Some(entry) => Err(Answer::Change(entry as u32)),
+        None => Ok(()),
     }
 }
 
 // What check is lent.
-#[tactic(auto, using(basis::proofs::Judging::size_broken, basis::proofs::Judging::size_kept, crate::proofs::Lengths::check_right), unfolding(model::specs::Rules::check_rules))]
-pub fn judge_check(
-    kinds: &[u8],
-    types: &[u8],
-    gates: &[u16],
-    sources: &[u16],
-    drains: &[u16],
-) -> Verdict
-    ensures { result ≡ judge (check_rules (net_of kinds.now types.now gates.now sources.now drains.now)) }
+#[tactic(auto, unfolding(model::specs::Rules::check_rules))]
+pub fn judge_check(net: &Network) -> Result<(), Answer>
+    ensures { result ≡ judge (check_rules (lent net.now)) }
 {
-    if wrong_check_sizes(kinds, types, gates, sources, drains) {
-        return Verdict::Refused(Answer::Size);
+    if wrong_check_sizes(net) {
+        return Err(Answer::Size);
     }
-    judge_tables(kinds, types, gates, sources, drains)
+    judge_tables(net)
 }
 
 // What reset is lent. The old states are not tested.
-#[tactic(auto, using(basis::proofs::Judging::size_broken, basis::proofs::Judging::size_kept, crate::proofs::Lengths::reset_right), unfolding(model::specs::Rules::reset_rules))]
-pub fn judge_reset(kinds: &[u8], states: &[u8]) -> Verdict
+#[tactic(auto, using(basis::proofs::Fitting::reset_sized), unfolding(model::specs::Rules::reset_rules))]
+pub fn judge_reset(kinds: &[u8], states: &[u8]) -> Result<(), Answer>
     ensures { result ≡ judge (reset_rules kinds.now states.now) }
 {
     if wrong_reset_sizes(kinds, states) {
-        return Verdict::Refused(Answer::Size);
+        return Err(Answer::Size);
     }
     judge_kinds(kinds)
 }
 
 // What a step is lent.
-#[tactic(auto, using(basis::proofs::Judging::size_broken, basis::proofs::Judging::size_kept, crate::proofs::Lengths::step_right), unfolding(model::specs::Rules::step_rules))]
-pub fn judge_step(
-    kinds: &[u8],
-    states: &[u8],
-    types: &[u8],
-    gates: &[u16],
-    sources: &[u16],
-    drains: &[u16],
-    work: &[u16],
-) -> Verdict
-    ensures { result ≡ judge (step_rules (net_of kinds.now types.now gates.now sources.now drains.now) states.now work.now) }
+#[tactic(auto, using(basis::proofs::Fitting::step_sized), unfolding(model::specs::Rules::step_rules))]
+pub fn judge_step(net: &Network, states: &[u8], work: &[u16]) -> Result<(), Answer>
+    ensures { result ≡ judge (step_rules (lent net.now) states.now work.now) }
 {
-    if wrong_step_sizes(kinds, states, types, gates, sources, drains, work) {
-        return Verdict::Refused(Answer::Size);
+    if wrong_step_sizes(net, states, work) {
+        return Err(Answer::Size);
     }
-    judge_contents(kinds, states, types, gates, sources, drains)
+    judge_contents(net, states)
 }
 
 // What a unit run is lent.
-#[tactic(auto, using(basis::proofs::Judging::size_broken, basis::proofs::Judging::size_kept, basis::proofs::Judging::limit_broken, basis::proofs::Judging::limit_kept, crate::proofs::Lengths::run_right), unfolding(model::specs::Rules::unit_rules))]
+#[tactic(auto, using(basis::proofs::Fitting::run_sized, basis::proofs::Fitting::step_sized), unfolding(model::specs::Rules::unit_rules))]
 pub fn judge_unit(
-    kinds: &[u8],
+    net: &Network,
     states: &[u8],
-    types: &[u8],
-    gates: &[u16],
-    sources: &[u16],
-    drains: &[u16],
-    named: &[u16],
-    values: &[u8],
+    changes: &ChangeList,
     limit: u32,
     work: &[u16],
-) -> Verdict
-    ensures { let net = net_of kinds.now types.now gates.now sources.now drains.now in
-        result ≡ judge (unit_rules net states.now (changes_of named.now values.now) limit work.now) }
+) -> Result<(), Answer>
+    ensures { result ≡ judge (unit_rules (lent net.now) states.now (asked changes.now) limit work.now) }
 {
-    if wrong_run_sizes(
-        kinds, states, types, gates, sources, drains, named, values, work,
-    ) {
-        return Verdict::Refused(Answer::Size);
+    if wrong_run_sizes(net, states, changes, work) {
+        return Err(Answer::Size);
     }
     if limit > HIGHEST_LIMIT {
-        return Verdict::Refused(Answer::Limit);
+        return Err(Answer::Limit);
     }
-    judge_run(kinds, states, types, gates, sources, drains, named, values)
+    judge_run(net, states, changes)
 }
 
 // What a ternary run is lent.
-#[tactic(auto, using(basis::proofs::Judging::size_broken, basis::proofs::Judging::size_kept, crate::proofs::Lengths::run_right), unfolding(model::specs::Rules::ternary_rules))]
+#[tactic(auto, using(basis::proofs::Fitting::run_sized, basis::proofs::Fitting::step_sized), unfolding(model::specs::Rules::ternary_rules))]
 pub fn judge_ternary(
-    kinds: &[u8],
+    net: &Network,
     states: &[u8],
-    types: &[u8],
-    gates: &[u16],
-    sources: &[u16],
-    drains: &[u16],
-    named: &[u16],
-    values: &[u8],
+    changes: &ChangeList,
     work: &[u16],
-) -> Verdict
-    ensures { let net = net_of kinds.now types.now gates.now sources.now drains.now in
-        result ≡ judge (ternary_rules net states.now (changes_of named.now values.now) work.now) }
+) -> Result<(), Answer>
+    ensures { result ≡ judge (ternary_rules (lent net.now) states.now (asked changes.now) work.now) }
 {
-    if wrong_run_sizes(
-        kinds, states, types, gates, sources, drains, named, values, work,
-    ) {
-        return Verdict::Refused(Answer::Size);
+    if wrong_run_sizes(net, states, changes, work) {
+        return Err(Answer::Size);
     }
-    judge_run(kinds, states, types, gates, sources, drains, named, values)
+    judge_run(net, states, changes)
 }

@@ -11,15 +11,13 @@ use Rattle.model.specs.Places.{iter, at}
 use Rattle.model.specs.Net.{Net, nodes, ground, power, is_input, step}
 use Rattle.model.specs.Run.{Changes, entered, changed, limit_of}
 use Rattle.model.specs.Answer.{number, place, first_count, second_count}
-use Rattle.model.specs.Rules.{Rule, judge, given, cells, start_rule, check_rules, reset_rules, step_sizes, step_rules, run_sizes, run_rules, unit_rules, ternary_rules}
+use Rattle.model.specs.Rules.{Verdict, Rule, judge, given, cells, start_rule, check_rules, reset_rules, step_sizes, step_rules, run_sizes, run_rules, unit_rules, ternary_rules}
 use Rattle.model.specs.Entries.{Outcome, untouched, first_changed, reset_state, reset_states, cleared, step_taken, unit_ran, ternary_ran, check_answer, reset_outcome, step_outcome, unit_outcome, ternary_outcome}
 use Rattle.model.specs.Order.{◌≼◌}
 use Rattle.model.specs.Cover.{OneByOne}
 use Rattle.model.specs.Demands.{Clean, Told, Lowest, Live, Enterable, Settles, Unsettled, FirstMoved, Covered}
 use Rattle.model.specs.declared.Answer.{Answer}
 use Rattle.model.specs.declared.Answer.TheVariants.{Done, Oscillates}
-use Rattle.model.specs.declared.Verdict.{Verdict}
-use Rattle.model.specs.declared.Verdict.TheVariants.{Accepted, Refused}
 use Rattle.laws.proofs.Places.{length-tab, get_or-tab}
 use Rattle.laws.proofs.Agreed.{below_bit}
 use Rattle.laws.proofs.Judged.{Numbers, none, also, Numbered, numbered, sorted, broken_number, level_at, judged_lowest, judge_append}
@@ -28,14 +26,15 @@ use Rattle.laws.proofs.Changes.{length-put, clean_changes}
 use Rattle.laws.proofs.Moved.{all_held}
 use Rattle.laws.proofs.RuleOne.{stepper}
 use Rattle.laws.proofs.Outcomes.{told, by_verdict, accepts, step_refused, step_done, step_moved, step-at-rest, unit_refused, unit-ran, unit_done, unit_done_place, unit_oscillates, unit-next_moved, unit_done_when, unit_oscillates_when, ternary_refused, ternary_start, ternary-ran, ternary_done, ternary_done_when, ternary_start_when, ternary_above}
+use Rattle.std.proofs.Common.{Ok, Err}
 
 -- the answer of what is judged is what judging the answers gives
 answer_of : (rs : List Rule) (refuse : Answer → Outcome) (accept : Outcome) → ((a : Answer) → (refuse a).answer ≡ a) → (given (judge rs) refuse accept).answer ≡ given (judge rs) (λ a. a) accept.answer
 answer_of rs refuse accept h = go (judge rs)
   where
     go : (v : Verdict) → (given v refuse accept).answer ≡ given v (λ a. a) accept.answer
-    go Accepted = refl
-    go (Refused a) = h a
+    go (Ok _) = refl
+    go (Err a) = h a
 
 -- Check. "The lowest number that applies is given", exactly when its row says, at the first place
 module _ (net : Net) where
@@ -250,10 +249,10 @@ module _ (net : Net) (s : List ℕ) (ch : Changes) (w : List ℕ) where
   unfolding ternary_outcome
   ternary_answer = rw (judge_append (ternary_rules net s ch w) (start_rule (step net) s ∷ [])) (go (judge (ternary_rules net s ch w)) (judge (start_rule (step net) s ∷ [])))
     where
-      go : (v u : Verdict) → (given v (untouched s w) (given u (untouched s (cleared (cells net) w)) ternary_end)).answer ≡ given (given v Refused u) (λ a. a) ternary_end.answer
-      go Accepted Accepted = refl
-      go Accepted (Refused a) = refl
-      go (Refused a) u = refl
+      go : (v u : Verdict) → (given v (untouched s w) (given u (untouched s (cleared (cells net) w)) ternary_end)).answer ≡ given (given v Err u) (λ a. a) ternary_end.answer
+      go (Ok _) (Ok _) = refl
+      go (Ok _) (Err a) = refl
+      go (Err a) u = refl
 
   pub ternary-told : Told all_rules (λ a. a) ternary_end.answer (ternary_outcome net s ch w).answer
   unfolding ternary_outcome

@@ -11,11 +11,10 @@ use lib.Dec.{eqb, ltb, leb}
 use borrow.Author.Tests.{eqb-true, eqb-false, ltb-true, ltb-false, leb-true, not-true, not-false}
 use Rattle.model.specs.Places.{any, first}
 use Rattle.model.specs.Answer.{number}
-use Rattle.model.specs.Rules.{Rule, judge, given}
+use Rattle.model.specs.Rules.{Verdict, Rule, judge, given}
 use Rattle.model.specs.Demands.{Clean, Broken, now, later, Applies, by, past, Judged, Lowest}
 use Rattle.model.specs.declared.Answer.{Answer}
-use Rattle.model.specs.declared.Verdict.{Verdict}
-use Rattle.model.specs.declared.Verdict.TheVariants.{Accepted, Refused}
+use Rattle.std.proofs.Common.{Ok, Err}
 
 -- k is the least place below n at which the test passes; or k is n, and there is none
 abbrev pub Least : ℕ → (ℕ → Bool) → ℕ → Type 0
@@ -44,12 +43,12 @@ judge_says (r ∷ rs) = go _ refl (first_says r.places r.breaks) (judge rs) (jud
     p : ℕ
     p = first r.places r.breaks
 
-    go : (b : Bool) → ltb p r.places ≡ b → Least r.places r.breaks p → (v : Verdict) → Judged rs v → Judged (r ∷ rs) (elim b as (λ x. Verdict) [ true ↦ Refused (r.refusal p) | false ↦ v ])
+    go : (b : Bool) → ltb p r.places ≡ b → Least r.places r.breaks p → (v : Verdict) → Judged rs v → Judged (r ∷ rs) (elim b as (λ x. Verdict) [ true ↦ Err (r.refusal p) | false ↦ v ])
     go true e (inl h) v j = now h.0 h.1 h.2
     go true e (inr h) v j = absurd (omega (arith, ltb-true p r.places e))
     go false e (inl h) v j = absurd (omega (arith, ltb-false p r.places e))
-    go false e (inr h) Accepted j = (h.1, j)
-    go false e (inr h) (Refused a) j = later h.1 j
+    go false e (inr h) (Ok _) j = (h.1, j)
+    go false e (inr h) (Err a) j = later h.1 j
 
 -- no rules are both clean and broken
 pub clean_unbroken : (rs : List Rule) (a : Answer) → Clean rs → Broken rs a → ⊥
@@ -86,25 +85,25 @@ broken_one (r ∷ rs) a b x y = go (broken_head (r ∷ rs) a x) (broken_head (r 
     go (inr h) (inl k) f = absurd (true≢false (sym k.2 ∙ h.0 k.0 k.1))
     go (inr h) (inr k) f = f h.1 k.1
 
-pub judge_broken : (rs : List Rule) (a : Answer) → Broken rs a → judge rs ≡ Refused a
+pub judge_broken : (rs : List Rule) (a : Answer) → Broken rs a → judge rs ≡ Err a
 judge_broken rs a x = go (judge rs) refl (judge_says rs)
   where
-    go : (v : Verdict) → judge rs ≡ v → Judged rs v → judge rs ≡ Refused a
-    go Accepted e j = absurd (clean_unbroken rs a j x)
-    go (Refused b) e j = e ∙ ap Refused (broken_one rs b a j x)
+    go : (v : Verdict) → judge rs ≡ v → Judged rs v → judge rs ≡ Err a
+    go (Ok _) e j = absurd (clean_unbroken rs a j x)
+    go (Err b) e j = e ∙ ap Err (broken_one rs b a j x)
 
-pub judge_clean : (rs : List Rule) → Clean rs → judge rs ≡ Accepted
+pub judge_clean : (rs : List Rule) → Clean rs → judge rs ≡ Ok tt
 judge_clean rs c = go (judge rs) refl (judge_says rs)
   where
-    go : (v : Verdict) → judge rs ≡ v → Judged rs v → judge rs ≡ Accepted
-    go Accepted e j = e
-    go (Refused a) e j = absurd (clean_unbroken rs a c j)
+    go : (v : Verdict) → judge rs ≡ v → Judged rs v → judge rs ≡ Ok tt
+    go (Ok _) e j = e
+    go (Err a) e j = absurd (clean_unbroken rs a c j)
 
 -- no place breaks the rule; none breaks any of those that are accepted
 abbrev pub Kept : Rule → Type 0
 Kept r = (q : ℕ) → q < r.places → r.breaks q ≡ false
 
-pub clean : (rs : List Rule) → judge rs ≡ Accepted → Clean rs
+pub clean : (rs : List Rule) → judge rs ≡ Ok tt → Clean rs
 clean rs e = subst (λ (v : Verdict). Judged rs v) e (judge_says rs)
 
 -- a fact of each place that breaks a rule is a fact of the refusal
@@ -208,16 +207,16 @@ pub judged_lowest : (n : ℕ) (rs : List Rule) (accept : Answer) → Sorted n rs
 judged_lowest n rs accept h b x = go (judge rs) (judge_says rs)
   where
     go : (v : Verdict) → Judged rs v → Applies rs (given v (λ a. a) accept) × (number (given v (λ a. a) accept) ≤ number b)
-    go Accepted j = absurd (clean_applies rs b j x)
-    go (Refused a) j = (broken_applies rs a j, lowest n rs a b h j x)
+    go (Ok _) j = absurd (clean_applies rs b j x)
+    go (Err a) j = (broken_applies rs a j, lowest n rs a b h j x)
 
 -- rules one after the other
-pub judge_append : (rs qs : List Rule) → judge (rs ++ qs) ≡ given (judge rs) Refused (judge qs)
+pub judge_append : (rs qs : List Rule) → judge (rs ++ qs) ≡ given (judge rs) Err (judge qs)
 judge_append [] qs = refl
 judge_append (r ∷ rs) qs = go (ltb (first r.places r.breaks) r.places) (judge_append rs qs)
   where
-    go : (b : Bool) → judge (rs ++ qs) ≡ given (judge rs) Refused (judge qs)
-        → elim b as (λ x. Verdict) [ true ↦ Refused (r.refusal (first r.places r.breaks)) | false ↦ judge (rs ++ qs) ]
-        ≡ given (elim b as (λ x. Verdict) [ true ↦ Refused (r.refusal (first r.places r.breaks)) | false ↦ judge rs ]) Refused (judge qs)
+    go : (b : Bool) → judge (rs ++ qs) ≡ given (judge rs) Err (judge qs)
+        → elim b as (λ x. Verdict) [ true ↦ Err (r.refusal (first r.places r.breaks)) | false ↦ judge (rs ++ qs) ]
+        ≡ given (elim b as (λ x. Verdict) [ true ↦ Err (r.refusal (first r.places r.breaks)) | false ↦ judge rs ]) Err (judge qs)
     go true h = refl
     go false h = h

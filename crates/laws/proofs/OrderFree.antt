@@ -14,18 +14,17 @@ use Rattle.model.specs.Places.{at, any, first}
 use Rattle.model.specs.Net.{Net, nodes, is_input, step}
 use Rattle.model.specs.Run.{Changes, Ran, entered, settle, limit_of, raised, lowered, unit_steps, first_half, second_half}
 use Rattle.model.specs.Answer.{number}
-use Rattle.model.specs.Rules.{Rule, judge, given, judged, cells, size_rule, limit_rule, kind_rule, wire_rule, state_rule, change_rule, start_rule, wire_tests, change_tests, check_sizes, check_rules, step_sizes, step_rules, run_sizes, run_rules, unit_rules, ternary_rules}
+use Rattle.model.specs.Rules.{Verdict, Rule, judge, given, judged, cells, size_rule, limit_rule, kind_rule, wire_rule, state_rule, change_rule, start_rule, wire_tests, change_tests, check_sizes, check_rules, step_sizes, step_rules, run_sizes, run_rules, unit_rules, ternary_rules}
 use Rattle.model.specs.Entries.{Outcome, untouched, altered, first_changed, cleared, ran_answer, ternary_started, check_answer, step_outcome, unit_outcome, ternary_outcome}
 use Rattle.model.specs.Demands.{Clean, Enterable}
 use Rattle.model.specs.Alike.{Copy, Held, Alike, Listed, SameAnswer, SameRun}
 use Rattle.model.specs.declared.Answer.{Answer}
 use Rattle.model.specs.declared.Answer.TheVariants.{Done, Size}
-use Rattle.model.specs.declared.Verdict.{Verdict}
-use Rattle.model.specs.declared.Verdict.TheVariants.{Accepted, Refused}
 use Rattle.laws.proofs.Judged.{first_says, level_at}
 use Rattle.laws.proofs.Changes.{clean_changes, entered-listed}
 use Rattle.laws.proofs.Alike.{other, over_kinds, step_alike}
 use Rattle.laws.proofs.Demands.{done_step, unit_end, unit_runs, ternary_end, ternary_runs}
+use Rattle.std.proofs.Common.{Ok, Err}
 
 -- some place breaks the rule; none does
 abbrev Breaks : Rule → Type 0
@@ -39,7 +38,7 @@ clash r f b = true≢false (sym b.2 ∙ f b.0 b.1)
 
 -- what the first rule of a list does to the judging
 abbrev Head : Rule → List Rule → Type 0
-Head r rs = (Breaks r × (judge (r ∷ rs) ≡ Refused (r.refusal (first r.places r.breaks)))) ⊎ (Unbroken r × (judge (r ∷ rs) ≡ judge rs))
+Head r rs = (Breaks r × (judge (r ∷ rs) ≡ Err (r.refusal (first r.places r.breaks)))) ⊎ (Unbroken r × (judge (r ∷ rs) ≡ judge rs))
 
 head : (r : Rule) (rs : List Rule) → Head r rs
 head r rs = go (ltb p r.places) refl (first_says r.places r.breaks)
@@ -49,7 +48,7 @@ head r rs = go (ltb p r.places) refl (first_says r.places r.breaks)
 
     go : (b : Bool) → ltb p r.places ≡ b
         → ((p < r.places) × (r.breaks p ≡ true) × ((q : ℕ) → q < p → r.breaks q ≡ false)) ⊎ ((p ≡ r.places) × ((q : ℕ) → q < r.places → r.breaks q ≡ false))
-        → (Breaks r × ((elim b as (λ x. Verdict) [ true ↦ Refused (r.refusal p) | false ↦ judge rs ]) ≡ Refused (r.refusal p))) ⊎ (Unbroken r × ((elim b as (λ x. Verdict) [ true ↦ Refused (r.refusal p) | false ↦ judge rs ]) ≡ judge rs))
+        → (Breaks r × ((elim b as (λ x. Verdict) [ true ↦ Err (r.refusal p) | false ↦ judge rs ]) ≡ Err (r.refusal p))) ⊎ (Unbroken r × ((elim b as (λ x. Verdict) [ true ↦ Err (r.refusal p) | false ↦ judge rs ]) ≡ judge rs))
     go true e (inl h) = inl ((p, h.0, h.1), refl)
     go true e (inr h) = absurd (omega (arith, ltb-true p r.places e))
     go false e (inl h) = absurd (omega (arith, ltb-false p r.places e))
@@ -72,10 +71,10 @@ Pairs (r ∷ rs) [] = ⊥
 Pairs (r ∷ rs) (q ∷ qs) = Pair r q × Pairs rs qs
 
 abbrev SameVerdict : Verdict → Verdict → Type 0
-SameVerdict Accepted Accepted = Unit {0}
-SameVerdict Accepted (Refused b) = ⊥
-SameVerdict (Refused a) Accepted = ⊥
-SameVerdict (Refused a) (Refused b) = SameAnswer a b
+SameVerdict (Ok _) (Ok _) = Unit {0}
+SameVerdict (Ok _) (Err b) = ⊥
+SameVerdict (Err a) (Ok _) = ⊥
+SameVerdict (Err a) (Err b) = SameAnswer a b
 
 one_head : (r : Rule) (rs qs : List Rule) → SameVerdict (judge rs) (judge qs) → SameVerdict (judge (r ∷ rs)) (judge (r ∷ qs))
 one_head r rs qs h = go (head r rs) (head r qs)
@@ -104,10 +103,10 @@ same_verdict (r ∷ rs) (q ∷ qs) m = go m.0 (same_verdict rs qs m.1) (head r r
 
 -- outcomes under verdicts that are the same
 same_run : (v u : Verdict) → SameVerdict v u → (s w x : List ℕ) (o p : Outcome) → SameRun o p → SameRun (given v (untouched s w) o) (given u (untouched s x) p)
-same_run Accepted Accepted h s w x o p r = r
-same_run Accepted (Refused b) h s w x o p r = absurd h
-same_run (Refused a) Accepted h s w x o p r = absurd h
-same_run (Refused a) (Refused b) h s w x o p r = record { answers = h; states = refl }
+same_run (Ok _) (Ok _) h s w x o p r = r
+same_run (Ok _) (Err b) h s w x o p r = absurd h
+same_run (Err a) (Ok _) h s w x o p r = absurd h
+same_run (Err a) (Err b) h s w x o p r = record { answers = h; states = refl }
 
 -- an outcome that is not refused for its size
 fits : {A : Type 0} (answer : A → Answer) (tests : List Bool) (rs : List Rule) (refuse : Answer → A) (accept : A) → (number (answer (refuse Size)) ≡ 1)
@@ -115,7 +114,7 @@ fits : {A : Type 0} (answer : A → Answer) (tests : List Bool) (rs : List Rule)
 fits answer tests rs refuse accept one h q l = go (any tests) refl
   where
     pick : Bool → Verdict
-    pick b = elim (ltb (elim b as (λ x. ℕ) [ true ↦ 0 | false ↦ 1 ]) 1) as (λ x. Verdict) [ true ↦ Refused Size | false ↦ judge rs ]
+    pick b = elim (ltb (elim b as (λ x. ℕ) [ true ↦ 0 | false ↦ 1 ]) 1) as (λ x. Verdict) [ true ↦ Err Size | false ↦ judge rs ]
 
     go : (b : Bool) → any tests ≡ b → any tests ≡ false
     go true e = absurd (h (ap (λ (b : Bool). number (answer (given (pick b) refuse accept))) e ∙ one))
@@ -195,10 +194,10 @@ module _ (net : Net) (ts gs ss ds : List ℕ) (there : Held net (other net ts gs
       (inr (inr (fits_check net h, fits_check twin k)), (inl refl, (inr (inl wires), tt))))
     where
       go : (v u : Verdict) → SameVerdict v u → SameAnswer (given v (λ a. a) (Done 0 0 0)) (given u (λ a. a) (Done 0 0 0))
-      go Accepted Accepted m = inl refl
-      go Accepted (Refused b) m = absurd m
-      go (Refused a) Accepted m = absurd m
-      go (Refused a) (Refused b) m = m
+      go (Ok _) (Ok _) m = inl refl
+      go (Ok _) (Err b) m = absurd m
+      go (Err a) (Ok _) m = absurd m
+      go (Err a) (Err b) m = m
 
   step_same : (s w x : List ℕ) → (number (step_outcome net s w).answer ≡ 1 → ⊥) → (number (step_outcome twin s x).answer ≡ 1 → ⊥) → SameRun (step_outcome net s w) (step_outcome twin s x)
   unfolding step_outcome step_rules

@@ -11,15 +11,13 @@ use borrow.Author.Tests.{not-false, not-true, lt-ltb, le-ltb}
 use Rattle.model.specs.Places.{iter, same, at}
 use Rattle.model.specs.Run.{Changes, Ran, entered, settled, limit_of, unit_steps, first_half, second_half}
 use Rattle.model.specs.Answer.{number, place, first_count, second_count}
-use Rattle.model.specs.Rules.{Rule, judge, given, judged, start_rule}
+use Rattle.model.specs.Rules.{Verdict, Rule, judge, given, judged, start_rule}
 use Rattle.model.specs.Entries.{Outcome, untouched, first_changed, cleared, step_taken, unit_ran, ternary_ran, ternary_started, step_under, unit_under, ternary_under}
 use Rattle.model.specs.Order.{◌≼◌}
 use Rattle.model.specs.Cover.{Stepper}
 use Rattle.model.specs.Demands.{Clean, Broken, Judged, Told, Enterable, Settles, Unsettled, FirstMoved, Covered}
 use Rattle.model.specs.declared.Answer.{Answer}
 use Rattle.model.specs.declared.Answer.TheVariants.{Done, Oscillates}
-use Rattle.model.specs.declared.Verdict.{Verdict}
-use Rattle.model.specs.declared.Verdict.TheVariants.{Accepted, Refused}
 use Rattle.laws.proofs.Places.{length-tab, get_or-tab}
 use Rattle.laws.proofs.Descent.{iter_keeps}
 use Rattle.laws.proofs.Settle.{same_refl, same_true, same_false, Ended, Stuck, settle_says}
@@ -27,6 +25,7 @@ use Rattle.laws.proofs.Judged.{judge_says, judge_clean, broken_each, Numbered, b
 use Rattle.laws.proofs.Ternary.{ended_settles, stuck_unsettled, halves_cover, steps_covered}
 use Rattle.laws.proofs.Changes.{length-put, entered_others}
 use Rattle.laws.proofs.Moved.{at_rest, first_moved}
+use Rattle.std.proofs.Common.{Ok, Err}
 
 -- to show a fact of what is judged, show it of what is accepted and of what a refusal gives
 pub by_verdict : {A : Type 0} (P : A → Type 0) (rs : List Rule) (refuse : Answer → A) (accept : A) → (Clean rs → P accept) → ((a : Answer) → Broken rs a → P (refuse a))
@@ -34,8 +33,8 @@ pub by_verdict : {A : Type 0} (P : A → Type 0) (rs : List Rule) (refuse : Answ
 by_verdict P rs refuse accept f g = go (judge rs) (judge_says rs)
   where
     go : (v : Verdict) → Judged rs v → P (given v refuse accept)
-    go Accepted j = f j
-    go (Refused a) j = g a j
+    go (Ok _) j = f j
+    go (Err a) j = g a j
 
 pub told : {A : Type 0} (rs : List Rule) (refuse : Answer → A) (accept : A) → Told rs refuse accept (judged rs refuse accept)
 told rs refuse accept = by_verdict (Told rs refuse accept) rs refuse accept (λ c. inl (c, refl)) (λ a b. inr (a, b, refl))

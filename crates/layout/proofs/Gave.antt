@@ -1,14 +1,13 @@
 -- The cells of a gift: one tells of more, the others stay. Assumes nothing.
-use Prim.Native.Nat.{ℕ, ◌+◌, ◌/◌, ◌<◌}
-use mathlib.Core.Path.{◌≡◌, refl, sym, ap, ◌∙◌}
-use mathlib.Core.Bool.{Bool, true, false}
+use Prim.Native.Nat.{ℕ, ◌/◌, ◌<◌}
+use mathlib.Core.Path.{◌≡◌, sym, ap, ◌∙◌}
 use mathlib.Core.List.{List}
 use lib.ListN.{length, set}
 use lib.Seq.{get_or-set_same, get_or-set_other, set-get_or}
 use Rattle.model.specs.Places.{at}
-use Rattle.branches.specs.Code.{mark_of, together}
+use Rattle.branches.specs.Code.{together}
 use Rattle.branches.proofs.Codes.{together-same}
-use Rattle.layout.specs.Look.{gave, brought}
+use Rattle.layout.specs.Look.{gave}
 
 module _ (place x : ℕ) (w : List ℕ) where
   pub gave_here : place < length w → at (gave place x w) place ≡ together (at w place) x
@@ -24,14 +23,6 @@ module _ (place x : ℕ) (w : List ℕ) where
   unfolding gave
   gave_is y e = ap (set w place) e
 
-  pub gave-same : at w place ≡ x → w ≡ gave place x w
+  pub gave_same : at w place ≡ x → w ≡ gave place x w
   unfolding gave
-  gave-same e = sym (ap (set w place) (sym (together-same (at w place) x (ap (λ (m : ℕ). m / 4) e) e)) ∙ set-get_or w place 0)
-
--- which cell is given, by whether the transistor is unknown
-module _ (unsure : Bool) (n v x m place : ℕ) (w : List ℕ) {w' : List ℕ} where
-  pub brought_unsure : unsure ≡ true → place ≡ v → m ≡ mark_of x → w' ≡ gave place (76 + m) w → w' ≡ brought unsure n v x w
-  brought_unsure e p f g = g ∙ rw (e, p, f) refl
-
-  pub brought_sure : unsure ≡ false → place ≡ n + v → m ≡ mark_of x → w' ≡ gave place (76 + m) w → w' ≡ brought unsure n v x w
-  brought_sure e p f g = g ∙ rw (e, p, f) refl
+  gave_same e = sym (ap (set w place) (sym (together-same (at w place) x (ap (λ (m : ℕ). m / 4) e) e)) ∙ set-get_or w place 0)

@@ -8,39 +8,23 @@ use mathlib.Core.Bool.{Bool, true, false, not, true≢false}
 use mathlib.Core.List.{List}
 use lib.ListN.{length}
 use Rattle.model.specs.Places.{at}
-use Rattle.model.specs.Net.{Net, nodes, transistors, is_input, stand_at}
+use Rattle.model.specs.Net.{Net, nodes, transistors, is_input, stand, stand_at}
 use Rattle.model.specs.Rules.{cells}
 use Rattle.model.specs.Ways.{choose}
 use Rattle.basis.specs.Sound.{Checked}
 use Rattle.basis.specs.Cells.{Written}
-use Rattle.basis.proofs.Acceptance.{checked_with}
 use Rattle.branches.specs.Branch.{Linked}
 use Rattle.branches.specs.Code.{telling, mark_of}
 use Rattle.layout.specs.Layout.{wires, LaidOut}
-use Rattle.layout.specs.Look.{source_at, brought, pushed, Seated, LaidOne, apart, down, up, inner, LaidNext, off, on}
+use Rattle.layout.specs.declared.Stand.{Stand}
+use Rattle.layout.specs.declared.Stand.TheVariants.{Open, Closed, Unknown}
+use Rattle.layout.specs.Look.{source_at, meant, unsure, brought, pushed, LaidOne, apart, down, up, inner, LaidNext, off, on}
 use Rattle.layout.proofs.Lists.{linked_none, pushed_else}
 use Rattle.layout.proofs.Links.{linked_off, linked_on}
 use Rattle.layout.proofs.Gifts.{offers_none, sources_alone}
 use Rattle.layout.proofs.Gave.{gave_else}
 use Rattle.layout.proofs.Begun.{source_input, source_else}
 use Rattle.layout.proofs.Told.{Told, told, told_same, told_gift, ends_none, ends_down, ends_up, stand_unsure}
-
--- the ends of transistor t of a checked network
-pub seated : {net : Net} {s : List ℕ} {room : ℕ} (t : ℕ) → Checked net s room → t < transistors net → Seated net.kinds s net.sources net.drains t room
-seated t c l = record {
-  states = c.states;
-  in_sources = omega (arith, c.sources);
-  in_drains = omega (arith, c.drains);
-  source = (c.wired t l).source;
-  drain = (c.wired t l).drain;
-  few_nodes = c.few_nodes;
-  few_transistors = omega (arith, c.few_transistors);
-  fits = omega (arith, c.fits);
-}
-
--- the state of its gate is there
-pub gated : {net : Net} {s : List ℕ} {room : ℕ} (t : ℕ) → Checked net s room → t < transistors net → at net.gates t < length s
-gated t c l = omega (arith, (c.wired t l).gate, c.states)
 
 module _ (net : Net) (s : List ℕ) (t : ℕ) (w₀ w : List ℕ) (C : Checked net s (length w)) (tl : t < transistors net) (z : LaidOut net s t w₀ w) where
   abbrev a : ℕ
@@ -109,9 +93,19 @@ module _ (net : Net) (s : List ℕ) (t : ℕ) (w₀ w : List ℕ) (C : Checked n
     laid_one (up p q r) = subst (LaidOut net s (t + 1) w₀) (sym r) (laid_up p q)
     laid_one (inner p q r) = subst (LaidOut net s (t + 1) w₀) (sym r) (laid_inner p q)
 
-  laid_next : {w' : List ℕ} → LaidNext net s t w w' → LaidOut net s (t + 1) w₀ w'
+  pub laid_next : {w' : List ℕ} → LaidNext net s t w w' → LaidOut net s (t + 1) w₀ w'
   laid_next (off o e) = subst (LaidOut net s (t + 1) w₀) (sym e) (laid_off o)
   laid_next (on unsure o e y) = laid_one unsure o e y
+
+-- by how it stands, as the code has it
+pub next_on : {net : Net} {s w w' : List ℕ} {t g : ℕ} (x : Stand) → g ≡ at net.gates t → meant x ≡ stand (at net.types t) (at s g) → (x ≡ Open → ⊥)
+    → LaidOne net.kinds s (at net.sources t) (at net.drains t) t (unsure x) w w' → LaidNext net s t w w'
+next_on {net} {s} {w} {w'} {t} x f e d y = go x (rw f at e) d y
+  where
+    go : (x : Stand) → meant x ≡ stand_at net s t → (x ≡ Open → ⊥) → LaidOne net.kinds s (at net.sources t) (at net.drains t) t (unsure x) w w' → LaidNext net s t w w'
+    go Open e d y = absurd (d refl)
+    go Closed e d y = on false (rw (sym e) refl) (rw (sym e) refl) y
+    go Unknown e d y = on true (rw (sym e) refl) (rw (sym e) refl) y
 
 -- before any transistor
 pub laid_none : {net : Net} {s w w₁ w₂ w₃ : List ℕ} → Written (λ k. 0) w 0 (nodes net) w₁ → Written (source_at net.kinds s) w₁ (nodes net) (nodes net) w₂
@@ -119,7 +113,7 @@ pub laid_none : {net : Net} {s w w₁ w₂ w₃ : List ℕ} → Written (λ k. 0
 laid_none {net} {s} {w} {w₁} {w₂} {w₃} x y z = record {
   sources = λ v i. rw (cell v i.0 ∙ sym (source_else net.kinds s v i.1)) (sources_alone net s v i.1);
   offers = λ v i. offers_none net s v (front v i.0);
-  inputs = λ v l p. (cell v l ∙ sym (source_input net.kinds s v p), front v l);
+  inputs = λ v l p. (cell v l ∙ sym (source_input (at net.kinds v) (at s v) p), front v l);
   linked = λ c. linked_none (λ v l. z.inside v l);
   after = λ j l. z.after j (omega arith) ∙ y.after j (omega arith) ∙ x.after j (omega arith);
 }
@@ -130,31 +124,8 @@ laid_none {net} {s} {w} {w₁} {w₂} {w₃} x y z = record {
     cell : (v : ℕ) → v < nodes net → at w₃ (nodes net + v) ≡ source_at net.kinds s v
     cell v l = z.before (nodes net + v) (omega arith) ∙ y.inside v l
 
--- the loop over the transistors, from the cells w on
-pub record Laying (net : Net) (s w : List ℕ) (t : ℕ) (u : List ℕ) : Type 0 where
-  pub below : t ≤ transistors net
-  pub checked : Checked net s (length u)
-  pub long : length u ≡ length w
-  pub laid : LaidOut net s t w u
-
-pub laying_none : {net : Net} {s w u : List ℕ} → Checked net s (length w) → length u ≡ length w → LaidOut net s 0 w u → Laying net s u 0 u
-laying_none c e z = record {
-  below = omega arith;
-  checked = checked_with c refl e;
-  long = refl;
-  laid = record { sources = z.sources; offers = z.offers; inputs = z.inputs; linked = z.linked; after = λ j l. refl };
-}
-
-pub laying_more : {net : Net} {s w u u' : List ℕ} {t : ℕ} → t < transistors net → length u' ≡ length u → LaidNext net s t u u' → Laying net s w t u → Laying net s w (t + 1) u'
-laying_more {net} {s} {w} {u} {t = t} l e y z = record {
-  below = omega arith;
-  checked = checked_with z.checked refl e;
-  long = e ∙ z.long;
-  laid = laid_next net s t w u z.checked l z.laid y;
-}
-
-pub laying_end : {net : Net} {s w w₁ u : List ℕ} {t : ℕ} → transistors net ≤ t → LaidOut net s 0 w w₁ → Laying net s w₁ t u → LaidOut net s (transistors net) w u
-laying_end {net} {s} {w} {u = u} {t = t} l y z =
-    let e : t ≡ transistors net = omega (arith, z.below) in
-    subst (λ (t : ℕ). LaidOut net s t w u) e
-    (record { sources = z.laid.sources; offers = z.laid.offers; inputs = z.laid.inputs; linked = z.laid.linked; after = λ j k. z.laid.after j k ∙ y.after j k })
+-- all of them
+pub laid_end : {net : Net} {s w u : List ℕ} {t : ℕ} → transistors net ≤ t → t ≤ transistors net → LaidOut net s t w u → LaidOut net s (transistors net) w u
+laid_end {net} {s} {w} {u} {t} l h z =
+    let e : t ≡ transistors net = omega arith in
+    subst (λ (t : ℕ). LaidOut net s t w u) e z

@@ -55,7 +55,7 @@ unlike-mark b x l n = go (dec_lt 1 x)
         is_unlike b (mark_of x) (λ q. omega arith) (λ q. omega arith)
 
 -- of two marks that differ, one is unlike b
-unlike_either : (b m n : ℕ) → (m ≡ n → ⊥) → 1 ≤ m → m ≤ 3 → 1 ≤ n → n ≤ 3 → (unlike b m ≡ true) ⊎ (unlike b n ≡ true)
+pub unlike_either : (b m n : ℕ) → (m ≡ n → ⊥) → 1 ≤ m → m ≤ 3 → 1 ≤ n → n ≤ 3 → (unlike b m ≡ true) ⊎ (unlike b n ≡ true)
 unlike_either b m n d m1 m3 n1 n3 = go (ℕ_discrete b 0) (ℕ_discrete m 1) (ℕ_discrete m 2)
   where
     go : Dec (b ≡ 0) → Dec (m ≡ 1) → Dec (m ≡ 2) → (unlike b m ≡ true) ⊎ (unlike b n ≡ true)

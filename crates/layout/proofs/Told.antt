@@ -18,12 +18,12 @@ use Rattle.layout.proofs.Gifts.{Quiet, Brings, sources_same, sources_more, offer
 use Rattle.layout.proofs.Gave.{gave_here, gave_else}
 
 -- a transistor that is closed or unknown is not open
-closed_passes : (x : Stand) → choose x false ≡ true → choose x true ≡ true
+pub closed_passes : (x : Stand) → choose x false ≡ true → choose x true ≡ true
 closed_passes opened e = e
 closed_passes closed e = e
 closed_passes unknown e = refl
 
-doubtful_passes : (x : Stand) → (choose x true && not (choose x false)) ≡ true → choose x true ≡ true
+pub doubtful_passes : (x : Stand) → (choose x true && not (choose x false)) ≡ true → choose x true ≡ true
 doubtful_passes opened e = e
 doubtful_passes closed e = refl
 doubtful_passes unknown e = refl

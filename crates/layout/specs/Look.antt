@@ -1,15 +1,35 @@
 -- What each part of one look at a transistor leaves. Assumes nothing.
-use Rattle.std.specs.Prelude.{ℕ, ◌+◌, ◌*◌, ◌≤◌, ◌<◌, ◌≡◌, Bool, true, false, not, cond, List, length, set}
+use Rattle.std.specs.Prelude.{ℕ, ◌+◌, ◌*◌, ◌≤◌, ◌<◌, ◌≡◌, Bool, true, false, not, cond, List, [], ◌∷◌, length, set}
 use Rattle.model.specs.Bounds.{most_nodes, most_transistors}
 use Rattle.model.specs.Places.{at}
-use Rattle.model.specs.Net.{Net, alone, inputs, source_state, stand_at}
+use Rattle.model.specs.Net as net
+use Rattle.model.specs.Net.{Net, opened, closed, unknown, alone, input_kind, inputs, source_state, stand_at}
 use Rattle.model.specs.Ways.{choose}
 use Rattle.model.specs.RuleOne.{own_strength}
 use Rattle.branches.specs.Code.{telling, mark_of, together}
+use Rattle.layout.specs.declared.Stand.{Stand}
+use Rattle.layout.specs.declared.Stand.TheVariants.{Open, Closed, Unknown}
 
--- what a node's cell tells before any transistor: the node alone is its source; 0 for an input
-unfoldable pub source_at : List ℕ → List ℕ → ℕ → ℕ
-source_at kinds s v = cond (inputs kinds v) 0 (telling (own_strength (alone kinds) v) (mark_of (source_state (alone kinds) s v)))
+-- how a transistor stands, in the definitions' words
+abbrev pub meant : Stand → net.Stand
+meant Open = opened
+meant Closed = closed
+meant Unknown = unknown
+
+-- whether one that is not open may be so
+abbrev pub unsure : Stand → Bool
+unsure Open = false
+unsure Closed = false
+unsure Unknown = true
+
+-- what the cell of a node of this kind, in this state, tells before any transistor: the node alone is its source; 0 for an input
+unfoldable pub source_of : ℕ → ℕ → ℕ
+source_of kind state =
+    let node = alone (kind ∷ []) in
+    cond (input_kind kind) 0 (telling (own_strength node 0) (mark_of (source_state node (state ∷ []) 0)))
+
+abbrev pub source_at : List ℕ → List ℕ → ℕ → ℕ
+source_at kinds s v = source_of (at kinds v) (at s v)
 
 -- the cell at `place` tells of the sources of x too
 unfoldable pub gave : ℕ → ℕ → List ℕ → List ℕ

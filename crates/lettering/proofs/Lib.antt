@@ -1,2 +1,3 @@
--- Texts written one after the other.
+-- Texts written one after the other, and numbers.
+mod Numbers
 pub mod Writes

@@ -1,21 +1,19 @@
-// Texts, codes and numbers of a dump, character by character: how long they are, and written to an output that has room for them. What writes
-// answers the place after what it wrote.
-#![tactic(auto)]
+// Texts, codes and numbers of a dump, character by character: how long they are, and written to an output that has room for them.
+#![tactic(auto, using(crate::proofs::Numbers::digits))]
 
-ghost use Rattle.std.specs.Prelude.{◌≤◌, ◌<◌, ◌≡◌, length};
+ghost use Rattle.std.specs.Prelude.{◌≤◌, ◌<◌, ◌≡◌, [], ◌∷◌, length};
 ghost use Rattle.model.specs.Bounds.{most_nodes, highest_limit};
 ghost use Rattle.waves.specs.Dump.{code, decimal};
-ghost use Rattle.lettering.specs.Writing.{Fits, Wrote};
+ghost use Rattle.lettering.specs.Writing.{HasRoom, Writes};
+
+use itoa::Buffer;
 
 // How many characters a node's code has.
 pub fn code_length(node: usize) -> usize
     requires { node < most_nodes }
     ensures { result ≡ length (code node) }
 {
-    if node < 94 {
-        return 1;
-    }
-    2
+    if node < 94 { 1 } else { 2 }
 }
 
 // How many digits a number has.
@@ -23,58 +21,60 @@ pub fn decimal_length(number: usize) -> usize
     requires { number ≤ highest_limit }
     ensures { result ≡ length (decimal number) }
 {
-    if number < 10 {
-        return 1;
+    match number {
+        0..=9 => 1,
+        10..=99 => 2,
+        100..=999 => 3,
+        1000..=9999 => 4,
+        _ => 5,
     }
-    if number < 100 {
-        return 2;
-    }
-    if number < 1000 {
-        return 3;
-    }
-    if number < 10000 {
-        return 4;
-    }
-    5
 }
 
-// A text as it stands.
-pub fn put_text(out: &mut [u8], place: usize, text: &[u8]) -> usize
-    requires { Fits out.old place text.now }
-    ensures { Wrote out.old place text.now result out.new }
-{
-    let mut i = 0;
-    while i < text.len() {
-        out[place + i] = text[i];
-        i += 1;
-    }
-    place + i
+// An output that is written from its front on, and the place that comes next. What writes to it goes on after what it wrote.
+#[derive(Drop)]
+pub struct Writer<'a> {
+    pub out: &'a mut [u8],
+    pub place: usize,
 }
 
-// A node's code, lowest digit first.
-pub fn put_code(out: &mut [u8], place: usize, node: usize) -> usize
-    requires { (node < most_nodes) × Fits out.old place (code node) }
-    ensures { Wrote out.old place (code node) result out.new }
-{
-    if node < 94 {
-        out[place] = (33 + node) as u8;
-        return place + 1;
+impl Writer<'_> {
+    // One character.
+    pub fn byte(&mut self, byte: u8)
+        requires { HasRoom self.old (byte ∷ []) }
+        ensures { Writes self.old (byte ∷ []) self.new }
+    {
+        self.out[self.place] = byte;
+        self.place += 1;
     }
-    out[place] = (33 + node % 94) as u8;
-    out[place + 1] = (33 + node / 94) as u8;
-    place + 2
-}
 
-// A number, highest digit first.
-pub fn put_decimal(out: &mut [u8], place: usize, number: usize) -> usize
-    requires { Fits out.old place (decimal number) }
-    ensures { Wrote out.old place (decimal number) result out.new }
-{
-    if number < 10 {
-        out[place] = (48 + number) as u8;
-        return place + 1;
+    // A text as it stands.
+    pub fn text(&mut self, text: &[u8])
+        requires { HasRoom self.old text.now }
+        ensures { Writes self.old text.now self.new }
+    {
+        let end = self.place + text.len();
+        self.out[self.place..end].copy_from_slice(text);
+        self.place = end;
     }
-    let end = put_decimal(out, place, number / 10);
-    out[end] = (48 + number % 10) as u8;
-    end + 1
+
+    // A node's code, lowest digit first.
+    pub fn code(&mut self, node: usize)
+        requires { (node < most_nodes) × HasRoom self.old (code node) }
+        ensures { Writes self.old (code node) self.new }
+    {
+        if node < 94 {
+            self.byte((33 + node) as u8);
+        } else {
+            self.byte((33 + node % 94) as u8);
+            self.byte((33 + node / 94) as u8);
+        }
+    }
+
+    // A number, highest digit first.
+    pub fn decimal(&mut self, number: usize)
+        requires { HasRoom self.old (decimal number) }
+        ensures { Writes self.old (decimal number) self.new }
+    {
+        self.text(Buffer::new().format(number).as_bytes());
+    }
 }

@@ -1,64 +1,50 @@
-// What the programs print: a line of the bench set, and a row of numbers with an answer. Where a write fails, its error is handed back.
+// What the programs print of an answer, and of states.
 #![tactic(auto)]
 
+ghost use Rattle.std.specs.Prelude.{◌≡◌, ◌++◌, Some, codes, decimal};
+ghost use Rattle.std.specs.List.{flat_map};
+ghost use Rattle.model.specs.Answer.{number, place, first_count, second_count};
+ghost use Rattle.lines.specs.Letter.{letter};
+
 use model::Answer;
-use std::io;
+use std::fmt;
 
-fn show_number(rt: &impl Print, n: usize) -> io::Result<()> {
-    print!(rt; " {n}")
-}
+// An answer by its row in the table of answers: number, place, first count and second count.
+#[derive(Clone, Copy)]
+pub struct Row(pub Answer);
 
-fn show_numbers(rt: &impl Print, row: &[usize]) -> io::Result<()> {
-    for n in row {
-        show_number(rt, *n)?;
-    }
-    Ok(())
-}
+impl fmt::Display for Row {
+    ghost output = { λ r. Some (decimal (number r.0) ++ (codes " " ++ (decimal (place r.0) ++ (codes " "
+        ++ (decimal (first_count r.0) ++ (codes " " ++ decimal (second_count r.0))))))) };
 
-// Number, place, first count and second count.
-fn show_answer(rt: &impl Print, answer: Answer) -> io::Result<()> {
-    let row = answers::row_of(answer);
-    show_number(rt, row[0] as usize)?;
-    show_number(rt, row[1] as usize)?;
-    show_number(rt, row[2] as usize)?;
-    show_number(rt, row[3] as usize)
-}
-
-fn letter(state: u8) -> char {
-    if state == 0 {
-        '0'
-    } else if state == 1 {
-        '1'
-    } else {
-        'X'
+    fn fmt<W: fmt::Write>(&self, f: &mut fmt::Formatter<W>) -> fmt::Result {
+        let [number, place, first, second] = <[u32; 4]>::from(self.0);
+        write!(f, "{number} {place} {first} {second}")
     }
 }
 
-fn show_state(rt: &impl Print, state: u8) -> io::Result<()> {
-    rt.print(letter(state))
-}
-
-// The states from node 0.
-fn show_states(rt: &impl Print, states: &[u8]) -> io::Result<()> {
-    for state in states {
-        show_state(rt, *state)?;
+// A letter for a state: X for every one but 0 and 1. A state is a byte of a lent table, which has no `Display` of ours.
+fn letter_of(state: u8) -> &'static str
+    ensures { result.now ≡ letter state }
+{
+    match state {
+        0 => "0",
+        1 => "1",
+        _ => "X",
     }
-    Ok(())
 }
 
-// A line of the bench set: its mark, the answer, the states.
-pub fn show_case(rt: &impl Print, mark: u32, answer: Answer, states: &[u8]) -> io::Result<()> {
-    print!(rt; "K{mark}")?;
-    show_answer(rt, answer)?;
-    print!(rt; " ")?;
-    show_states(rt, states)?;
-    println!(rt)
-}
+// States, a letter each, from node 0.
+#[derive(Clone, Copy)]
+pub struct States<'a>(pub &'a [u8]);
 
-// A row: numbers, then the answer.
-pub fn show_row(rt: &impl Print, numbers: &[usize], answer: Answer) -> io::Result<()> {
-    show_numbers(rt, numbers)?;
-    print!(rt; ":")?;
-    show_answer(rt, answer)?;
-    println!(rt)
+impl fmt::Display for States<'_> {
+    ghost output = { λ s. Some (flat_map letter s.0.now) };
+
+    fn fmt<W: fmt::Write>(&self, f: &mut fmt::Formatter<W>) -> fmt::Result {
+        for state in self.0 {
+            f.write_str(letter_of(*state))?;
+        }
+        Ok(())
+    }
 }

@@ -1,16 +1,14 @@
 -- What an answer promises: of the rules, of the steps between start and end, of every order of arrival. Assumes nothing.
-use Rattle.std.specs.Prelude.{ℕ, ◌≤◌, ◌<◌, ◌≡◌, Bool, true, false, not, ◌⊎◌, List, [], ◌∷◌, length}
+use Rattle.std.specs.Prelude.{Ok, Err, ℕ, ◌≤◌, ◌<◌, ◌≡◌, Bool, true, false, not, ◌⊎◌, List, [], ◌∷◌, length}
 use Rattle.model.specs.Bounds.{highest_state}
 use Rattle.model.specs.Places.{iter, at, count}
 use Rattle.model.specs.Net.{ground, power, Stand, opened, closed, unknown}
 use Rattle.model.specs.Run.{Changes, changed, raised, lowered}
 use Rattle.model.specs.Answer.{number}
-use Rattle.model.specs.Rules.{Rule}
+use Rattle.model.specs.Rules.{Verdict, Rule}
 use Rattle.model.specs.Order.{◌≼◌}
 use Rattle.model.specs.Cover.{Reach}
 use Rattle.model.specs.declared.Answer.{Answer}
-use Rattle.model.specs.declared.Verdict.{Verdict}
-use Rattle.model.specs.declared.Verdict.TheVariants.{Accepted, Refused}
 
 -- open (false) or closed (true) is a choice for a transistor that stands so
 abbrev pub Fits : Stand → Bool → Type 0
@@ -43,8 +41,8 @@ pub data Applies : List Rule → Answer → Type 0 where
   past : {r : Rule} {rs : List Rule} {a : Answer} → Applies rs a → Applies (r ∷ rs) a
 
 abbrev pub Judged : List Rule → Verdict → Type 0
-Judged rs Accepted = Clean rs
-Judged rs (Refused a) = Broken rs a
+Judged rs (Ok _) = Clean rs
+Judged rs (Err a) = Broken rs a
 
 -- where a refusal applies, the answer applies too and has no higher number
 abbrev pub Lowest : List Rule → Answer → Type 0

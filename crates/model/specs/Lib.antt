@@ -3,6 +3,7 @@ pub mod Places
 pub mod Bounds
 pub mod Net
 pub mod Run
+pub mod Lent
 pub mod Answer
 pub mod Rules
 pub mod Entries

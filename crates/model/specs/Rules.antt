@@ -1,13 +1,15 @@
 -- What is refused, and where: the refusals as one list of rules in the order of testing. Assumes nothing.
-use Rattle.std.specs.Prelude.{ℕ, Bool, true, false, not, List, [], ◌∷◌, ◌++◌, length, eqb, ltb}
+use Rattle.std.specs.Prelude.{Result, Ok, Err, ℕ, Bool, true, false, not, List, [], ◌∷◌, ◌++◌, length, eqb, ltb}
 use Rattle.model.specs.Bounds.{most_nodes, most_transistors, most_changes, highest_kind, highest_type, highest_state, highest_limit, cells_for}
 use Rattle.model.specs.Places.{some, any, first, at}
 use Rattle.model.specs.Net.{Net, nodes, transistors, is_input}
 use Rattle.model.specs.Run.{Changes, settled}
 use Rattle.model.specs.declared.Answer.{Answer}
 use Rattle.model.specs.declared.Answer.TheVariants.{Size, Limit, Kind, Wire, State, Change, Start}
-use Rattle.model.specs.declared.Verdict.{Verdict}
-use Rattle.model.specs.declared.Verdict.TheVariants.{Accepted, Refused}
+
+-- whether what is lent is taken, or which refusal it gets
+abbrev pub Verdict : Type 0
+Verdict = Result (Unit {0}) Answer
 
 -- a rule for what is lent: how many places it has, which of them break it, and the refusal at a place
 pub record Rule : Type 0 where
@@ -17,15 +19,15 @@ pub record Rule : Type 0 where
 
 -- the refusal of the first rule that is broken, at the first place that breaks it
 abbrev pub judge : List Rule → Verdict
-judge [] = Accepted
+judge [] = Ok tt
 judge (r ∷ rs) =
     let p = first r.places r.breaks in
-    elim (ltb p r.places) [ true ↦ Refused (r.refusal p) | false ↦ judge rs ]
+    elim (ltb p r.places) [ true ↦ Err (r.refusal p) | false ↦ judge rs ]
 
 -- what a refusal gives, and what acceptance gives
 abbrev pub given : {A : Type 0} → Verdict → (Answer → A) → A → A
-given Accepted refuse accept = accept
-given (Refused a) refuse accept = refuse a
+given (Ok _) refuse accept = accept
+given (Err a) refuse accept = refuse a
 
 abbrev pub judged : {A : Type 0} → List Rule → (Answer → A) → A → A
 judged rs refuse accept = given (judge rs) refuse accept

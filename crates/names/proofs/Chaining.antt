@@ -6,19 +6,21 @@ use mathlib.Core.Path.{◌≡◌, refl, sym, ap, ap₂, ◌∙◌, subst}
 use mathlib.Core.Logic.{inl, inr}
 use mathlib.Core.Bool.{Bool, true, false, true≢false}
 use mathlib.Core.List.{List, [], ◌∷◌, ◌++◌}
-use borrow.Author.Tests.{eqb-true, eqb-false, lt-ltb, le-ltb}
-use lib.ListN.{length, set, take, length-set}
-use lib.Seq.{get_or-set_same, get_or-set_other, take-suc-set}
+use borrow.Author.Tests.{eqb-true, eqb-false}
+use lib.ListN.{length, set, length-set}
+use lib.Seq.{get_or-set_same, get_or-set_other}
 use lib.Dec.{eqb}
 use Rattle.model.specs.Places.{at, first, same}
 use Rattle.text.specs.Bytes.{span, past, part, empty_part, span_at}
-use Rattle.text.specs.Netlist.{Nodes, number_of, kind_of, named}
+use Rattle.text.specs.Netlist.{number_of}
 use Rattle.text.specs.declared.Span.{Span}
 use Rattle.laws.proofs.Places.{length-tab, get_or-tab, tab_cong, tab_more, first-same}
 use Rattle.laws.proofs.Judged.{Least, first_says}
 use Rattle.laws.proofs.Settle.{same_true, same_refl}
 use Rattle.basis.proofs.Finding.{first-at, first_none}
-use Rattle.names.specs.Chains.{spans, nodes_at, with_name, Entered, chain_of, name_of, Last, Linked}
+use Rattle.names.specs.Known.{Known, known, one_more as entered}
+use Rattle.names.specs.Chains.{spans, chain_of, name_of, Last, Linked}
+use Rattle.names.proofs.Seen.{seen_text, seen_count, seen_span}
 
 -- node k has the name s
 module _ (text starts sizes : List ℕ) (s : Span) where
@@ -88,10 +90,42 @@ module _ (text starts sizes heads nexts : List ℕ) (n : ℕ) (s : Span) (w : Li
       other g l true h = absurd (v.passed g (omega arith) l h)
       other g l false h = refl
 
+-- the walk, as a clause sees it
+module _ (text starts sizes heads nexts : List ℕ) (n : ℕ) (w : Linked text n starts sizes heads nexts) (k : Known) (v : known text (spans n starts sizes) ≡ k) (s : Span) where
+  pub found_starts : (b : ℕ) → b < 4096 → b ≡ chain_of (part k.text s) → Walk text starts sizes s n (at heads b)
+  found_starts b l e = walk_start text starts sizes heads nexts n s w b l (rw (seen_text text n starts sizes k v) e)
+
+  number_seen : number_of text (spans n starts sizes) s ≡ number_of k.text k.names s
+  number_seen = ap (λ (x : Known). number_of x.text x.names s) v
+
+  pub found_none : (e : ℕ) → Walk text starts sizes s n e → e ≤ 0 → number_of k.text k.names s ≡ length k.names
+  found_none e u z = sym number_seen ∙ (sym (walk_end text starts sizes heads nexts n s w e u z) ∙ seen_count text n starts sizes k v)
+
+  module _ (e : ℕ) (u : Walk text starts sizes s n e) (some : 0 < e) where
+    pub found_below : e - 1 < length k.names
+    found_below = omega (arith, walk_below text starts sizes heads nexts n s w e u some, seen_count text n starts sizes k v)
+
+    pub found_inside : (p : Span) → p ≡ span_at k.names (e - 1) → past p ≤ length text
+    found_inside p q = let l = walk_below text starts sizes heads nexts n s w e u some in subst (λ (x : Span). past x ≤ length text) (seen_span text n starts sizes k v (e - 1) l ∙ sym q) (w.inside (e - 1) l)
+
+    -- what the code compares
+    has_seen : (p : Span) → p ≡ span_at k.names (e - 1) → (a b : List ℕ) → a ≡ part text p → b ≡ part text s → Has text starts sizes s (e - 1) ≡ same a b
+    has_seen p q a b ea eb =
+        ap₂ same (ap (part text) (seen_span text n starts sizes k v (e - 1) (walk_below text starts sizes heads nexts n s w e u some) ∙ sym q) ∙ sym ea) (sym eb)
+
+    pub found_hit : (p : Span) → p ≡ span_at k.names (e - 1) → (a b : List ℕ) → a ≡ part text p → b ≡ part text s → (r : Bool) → r ≡ same a b → r ≡ true
+        → (e - 1 ≡ number_of k.text k.names s) × (e - 1 < length k.names)
+    found_hit p q a b ea eb r er t = (walk_hit text starts sizes heads nexts n s w e u some (has_seen p q a b ea eb ∙ (sym er ∙ t)) ∙ number_seen, found_below)
+
+    pub found_miss : (p : Span) → p ≡ span_at k.names (e - 1) → (a b : List ℕ) → a ≡ part text p → b ≡ part text s → (r : Bool) → r ≡ same a b → r ≡ false
+        → Walk text starts sizes s n (at nexts (e - 1))
+    found_miss p q a b ea eb r er f = walk_miss text starts sizes heads nexts n s w e u some (has_seen p q a b ea eb ∙ (sym er ∙ f))
+
 -- with no node yet
-pub linked_none : (text starts sizes heads nexts : List ℕ) → length starts ≡ 4099 → length sizes ≡ 4099 → length heads ≡ 4096 → length nexts ≡ 4099 → ((b : ℕ) → b < 4096 → at heads b ≡ 0) → Linked text 0 starts sizes heads nexts
-linked_none text starts sizes heads nexts p q r t z =
+pub linked_none : (text starts sizes heads nexts : List ℕ) → length text ≤ 65535 → length starts ≡ 4099 → length sizes ≡ 4099 → length heads ≡ 4096 → length nexts ≡ 4099 → ((b : ℕ) → b < 4096 → at heads b ≡ 0) → Linked text 0 starts sizes heads nexts
+linked_none text starts sizes heads nexts o p q r t z =
     record {
+      short = o;
       starts_long = p;
       sizes_long = q;
       heads_long = r;
@@ -112,27 +146,25 @@ linked_none text starts sizes heads nexts p q r t z =
 -- a new node heads its chain
 module _ (text starts sizes heads nexts : List ℕ) (n : ℕ) (s : Span) (w : Linked text n starts sizes heads nexts) (room : n < 4099) (fits : past s ≤ length text)
     (b : ℕ) (lb : b < 4096) (eb : b ≡ chain_of (part text s)) (new : number_of text (spans n starts sizes) s ≡ n) where
-  S : List ℕ
+  abbrev pub S : List ℕ
   S = set starts n s.start
 
-  Z : List ℕ
+  abbrev pub Z : List ℕ
   Z = set sizes n s.size
 
-  H : List ℕ
+  abbrev pub H : List ℕ
   H = set heads b (n + 1)
 
-  X : List ℕ
+  abbrev pub X : List ℕ
   X = set nexts n (at heads b)
 
   old_span : (g : ℕ) → g < n → span (at S g) (at Z g) ≡ span (at starts g) (at sizes g)
-  unfolding S Z
   old_span g l = ap₂ span (get_or-set_other starts n g s.start 0 (λ e. no e)) (get_or-set_other sizes n g s.size 0 (λ e. no e))
     where
       no : g ≡ n → ⊥
       no e = omega arith
 
   new-span : span (at S n) (at Z n) ≡ s
-  unfolding S Z
   new-span = ap₂ span (get_or-set_same starts n s.start 0 (omega (arith, w.starts_long))) (get_or-set_same sizes n s.size 0 (omega (arith, w.sizes_long)))
 
   old_name : (g : ℕ) → g < n → name_of text S Z g ≡ name_of text starts sizes g
@@ -145,7 +177,7 @@ module _ (text starts sizes heads nexts : List ℕ) (n : ℕ) (s : Span) (w : Li
   one_more = omega arith
 
   -- the names with one more
-  spans-new : spans (n + 1) S Z ≡ spans n starts sizes ++ s ∷ []
+  pub spans-new : spans (n + 1) S Z ≡ spans n starts sizes ++ s ∷ []
   unfolding spans
   spans-new =
       ap (λ (j : ℕ). spans j S Z) one_more
@@ -171,7 +203,6 @@ module _ (text starts sizes heads nexts : List ℕ) (n : ℕ) (s : Span) (w : Li
       }
 
   head_other : (c : ℕ) → (c ≡ b → ⊥) → c < 4096 → Last text S Z c (n + 1) (at H c)
-  unfolding H
   head_other c d l =
       rw (get_or-set_other heads b c (n + 1) 0 d)
       (record {
@@ -183,7 +214,6 @@ module _ (text starts sizes heads nexts : List ℕ) (n : ℕ) (s : Span) (w : Li
       top g u y = omega arith
 
   head_own : Last text S Z b (n + 1) (at H b)
-  unfolding H
   head_own =
       rw (get_or-set_same heads b (n + 1) 0 (omega (arith, w.heads_long)))
       (record {
@@ -195,7 +225,6 @@ module _ (text starts sizes heads nexts : List ℕ) (n : ℕ) (s : Span) (w : Li
       one k q = omega arith
 
   next_old : (k : ℕ) → k < n → Last text S Z (chain_of (name_of text S Z k)) k (at X k)
-  unfolding X
   next_old k l =
       rw (get_or-set_other nexts n k (at heads b) 0 (λ e. no e), old_name k l)
       (kept (chain_of (name_of text starts sizes k)) k (at nexts k) (omega arith) (w.next k l))
@@ -204,15 +233,14 @@ module _ (text starts sizes heads nexts : List ℕ) (n : ℕ) (s : Span) (w : Li
       no e = omega arith
 
   next-new : Last text S Z (chain_of (name_of text S Z n)) n (at X n)
-  unfolding X
   next-new =
       rw (get_or-set_same nexts n (at heads b) 0 (omega (arith, w.nexts_long)), new-name, sym eb)
       (kept b n (at heads b) (omega arith) (w.head b lb))
 
   linked_so : Linked text (n + 1) S Z H X
-  unfolding S Z H X
   linked_so =
       record {
+        short = w.short;
         starts_long = length-set starts n s.start ∙ w.starts_long;
         sizes_long = length-set sizes n s.size ∙ w.sizes_long;
         heads_long = length-set heads b (n + 1) ∙ w.heads_long;
@@ -232,42 +260,30 @@ module _ (text starts sizes heads nexts : List ℕ) (n : ℕ) (s : Span) (w : Li
       way c l false e = head_other c (eqb-false c b e) l
 
   pub linked-new : Linked text (n + 1) (set starts n s.start) (set sizes n s.size) (set heads b (n + 1)) (set nexts n (at heads b))
-  unfolding S Z H X
   linked-new = linked_so
 
-  -- the nodes with one more
-  pub nodes-new : (kinds : List ℕ) → length kinds ≡ 4099 → (kind : ℕ) → kind ≡ kind_of (part text s)
-      → nodes_at (n + 1) (set starts n s.start) (set sizes n s.size) (set kinds n kind) ≡ with_name text (nodes_at n starts sizes kinds) s
-  unfolding S Z
-  nodes-new kinds l kind e =
-      ap₂ (λ (x : List Span) (y : List ℕ). record { names = x; kinds = y }) spans-new
-      (ap (λ (j : ℕ). take j (set kinds n kind)) one_more ∙ (take-suc-set kinds n kind (omega arith) ∙ ap (λ (x : ℕ). take n kinds ++ x ∷ []) e))
+-- the same, as a clause sees it
+module _ (text starts sizes heads nexts : List ℕ) (n : ℕ) (w : Linked text n starts sizes heads nexts) (k : Known) (v : known text (spans n starts sizes) ≡ k)
+    (s : Span) (b : ℕ) (room : length k.names < 4099) (fits : past s ≤ length k.text) (lb : b < 4096) (eb : b ≡ chain_of (part k.text s))
+    (new : number_of k.text k.names s ≡ length k.names) (m : ℕ) (em : m ≡ length k.names) where
+  last_so : m ≡ n
+  last_so = em ∙ sym (seen_count text n starts sizes k v)
 
--- a name that is there, and one that is not
-module _ (text : List ℕ) (m : Nodes) (s : Span) where
-  pub named_old : number_of text m.names s < length m.names → m ≡ named text m s
-  unfolding named
-  named_old l = rw (lt-ltb (number_of text m.names s) (length m.names) l)
+  few_so : n < 4099
+  few_so = omega (arith, last_so)
 
-  pub named_new : length m.names ≤ number_of text m.names s → with_name text m s ≡ named text m s
-  unfolding named
-  named_new l = rw (le-ltb (number_of text m.names s) (length m.names) l)
+  fits_so : past s ≤ length text
+  fits_so = rw (seen_text text n starts sizes k v) fits
 
-module _ (text starts sizes kinds : List ℕ) (n : ℕ) (s : Span) (k : ℕ) (e : k ≡ number_of text (spans n starts sizes) s) where
-  names_level : length (spans n starts sizes) ≡ n
-  unfolding spans
-  names_level = length-tab n (λ k. span (at starts k) (at sizes k))
+  chain_so : b ≡ chain_of (part text s)
+  chain_so = rw (seen_text text n starts sizes k v) eb
 
-  pub entered_old : k < n → Entered text s (nodes_at n starts sizes kinds) (nodes_at n starts sizes kinds) n (record { number = k; count = n })
-  entered_old l = record { nodes = named_old text (nodes_at n starts sizes kinds) s (omega (arith, names_level)); number = e; below = l; few = omega arith; more = omega arith }
+  new_so : number_of text (spans n starts sizes) s ≡ n
+  new_so = ap (λ (x : Known). number_of x.text x.names s) v ∙ (new ∙ sym (seen_count text n starts sizes k v))
 
-  pub entered-new : n ≤ k → k ≤ n → (after : Nodes) → after ≡ with_name text (nodes_at n starts sizes kinds) s
-      → Entered text s (nodes_at n starts sizes kinds) after n (record { number = k; count = n + 1 })
-  entered-new l m after h =
-      record {
-        nodes = h ∙ named_new text (nodes_at n starts sizes kinds) s (omega (arith, names_level));
-        number = e;
-        below = omega arith;
-        few = omega arith;
-        more = omega arith;
-      }
+  pub entered_linked : Linked text (n + 1) (set starts m s.start) (set sizes m s.size) (set heads b (n + 1)) (set nexts m (at heads b))
+  entered_linked = rw last_so (linked-new text starts sizes heads nexts n s w few_so fits_so b lb chain_so new_so)
+
+  pub entered_seen : known text (spans (n + 1) (set starts m s.start) (set sizes m s.size)) ≡ entered k s
+  entered_seen =
+      rw last_so (ap (known text) (spans-new text starts sizes heads nexts n s w few_so fits_so b lb chain_so new_so) ∙ ap (λ (x : Known). entered x s) v)

@@ -1,3 +1,4 @@
--- What the proofs of names cite; what other crates cite is public.
-mod Comparing
-pub mod Chaining
+-- What the proofs of names cite.
+mod Mixing
+mod Seen
+mod Chaining

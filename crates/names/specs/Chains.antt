@@ -1,30 +1,13 @@
--- The nodes as they stand in tables with room, and the chains in which their names are sought. Nothing that the entries promise is said in these
--- terms. Assumes nothing.
-use Rattle.std.specs.Prelude.{ℕ, ◌+◌, ◌*◌, ◌%◌, ◌≤◌, ◌<◌, ◌≡◌, List, [], ◌∷◌, ◌++◌, length, take}
+-- Names as they stand in tables with room, and the chains in which they are sought. Nothing that the entries promise is said in these terms.
+-- Assumes nothing.
+use Rattle.std.specs.Prelude.{ℕ, ◌+◌, ◌*◌, ◌%◌, ◌≤◌, ◌<◌, ◌≡◌, List, [], ◌∷◌, length}
 use Rattle.model.specs.Places.{tab, at}
 use Rattle.text.specs.Bytes.{span, part}
-use Rattle.text.specs.Netlist.{Nodes, number_of, kind_of, named}
 use Rattle.text.specs.declared.Span.{Span}
-use Rattle.names.specs.declared.Numbered.{Numbered}
 
 -- n names, by where they start and by their sizes
 unfoldable pub spans : ℕ → List ℕ → List ℕ → List Span
 spans n starts sizes = tab n (λ k. span (at starts k) (at sizes k))
-
-abbrev pub nodes_at : ℕ → List ℕ → List ℕ → List ℕ → Nodes
-nodes_at n starts sizes kinds = record { names = spans n starts sizes; kinds = take n kinds }
-
--- the nodes with one more
-abbrev pub with_name : List ℕ → Nodes → Span → Nodes
-with_name text m s = record { names = m.names ++ s ∷ []; kinds = m.kinds ++ kind_of (part text s) ∷ [] }
-
--- a name is numbered
-pub record Entered (text : List ℕ) (name : Span) (before after : Nodes) (count : ℕ) (r : Numbered) : Type 0 where
-  pub nodes : after ≡ named text before name
-  pub number : r.number ≡ number_of text before.names name
-  pub below : r.number < r.count
-  pub few : r.count ≤ count + 1
-  pub more : count ≤ r.count
 
 -- the number that bytes make, from h on
 unfoldable pub mixed : ℕ → List ℕ → ℕ
@@ -44,8 +27,9 @@ pub record Last (text starts sizes : List ℕ) (b n e : ℕ) : Type 0 where
   pub found : (k : ℕ) → e ≡ k + 1 → (k < n) × (chain_of (name_of text starts sizes k) ≡ b)
   pub none : (g : ℕ) → e ≤ g → g < n → chain_of (name_of text starts sizes g) ≡ b → ⊥
 
--- n names are known: parts of the text that differ; each chain has its last node, and each node the one before it in its chain
+-- n names are known of a text that is not too long: parts of it that differ; each chain has its last node, and each node the one before it in its chain
 pub record Linked (text : List ℕ) (n : ℕ) (starts sizes heads nexts : List ℕ) : Type 0 where
+  pub short : length text ≤ 65535
   pub starts_long : length starts ≡ 4099
   pub sizes_long : length sizes ≡ 4099
   pub heads_long : length heads ≡ 4096

@@ -1,2 +1,3 @@
--- In which terms the contracts of names speak: the nodes as they stand in tables, and chains.
+-- In which terms the contracts of names speak: the names that are known, and the chains that link them.
+pub mod Known
 pub mod Chains

@@ -1,5 +1,4 @@
 -- What the proofs of the entries cite, and what follows from their contracts.
-mod Outcomes
 pub mod Parts
 pub mod Determined
 pub mod Promises

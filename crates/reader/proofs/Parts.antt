@@ -1,15 +1,15 @@
 -- A node's name is a part of the text. Assumes nothing.
-use Prim.Native.Nat.{ℕ, ◌+◌, ◌-◌, ◌≤◌}
+use Prim.Native.Nat.{ℕ, ◌+◌, ◌≤◌}
 use native.Mathlib.Omega.{arith}
 use native.Mathlib.Decide.{dec_lt}
-use mathlib.Core.Path.{◌≡◌, refl, sym, ap, subst, ◌∙◌}
+use mathlib.Core.Path.{◌≡◌, refl, sym, subst}
 use mathlib.Core.Bool.{Bool, true, false, cond}
 use mathlib.Core.List.{List}
 use borrow.Author.Tests.{ltb-false}
-use lib.ListN.{length, take, drop, get_or-eq_default}
+use lib.ListN.{length, get_or-eq_default}
 use lib.Dec.{ltb}
 use Rattle.model.specs.Bounds.{most_bytes, most_nodes, most_transistors}
-use Rattle.text.specs.Bytes.{empty_part, past, part}
+use Rattle.text.specs.Bytes.{empty_part, past}
 use Rattle.text.specs.Netlist.{Reading, taken, refused, reading}
 use Rattle.text.specs.Reading.{full_reading, name_in, name_part}
 use Rattle.text.specs.declared.Span.{Span}
@@ -46,10 +46,3 @@ module _ (text : List ℕ) (k : ℕ) (s : Span) (e : s ≡ name_part text k) whe
 
   pub part_inside : s.start + s.size ≤ length text
   part_inside = subst (λ (p : Span). past p ≤ length text) (sym e) (name_inside text k)
-
-  pub part_bytes : take (s.start + s.size - s.start) (drop s.start text) ≡ part text (name_part text k)
-  unfolding part
-  part_bytes = ap (λ (n : ℕ). take n (drop s.start text)) (rest s.start s.size) ∙ ap (λ (p : Span). take p.size (drop p.start text)) e
-    where
-      rest : (a b : ℕ) → a + b - a ≡ b
-      rest a b = omega arith

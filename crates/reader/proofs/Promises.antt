@@ -31,7 +31,6 @@ use Rattle.textlaws.proofs.Parts.{part_none, part_length}
 use Rattle.textlaws.proofs.Readings.{refused_taken, more_room}
 use Rattle.textlaws.proofs.Promises.{taken_promised, read_checks}
 use Rattle.textlaws.proofs.Offenders.{Offends, first-line}
-use Rattle.reader.proofs.Outcomes.{part_long}
 
 -- the front of a table that is written anew, and the rest of it
 front_is : (new table : List ℕ) (n : ℕ) → length new ≡ n → take n (over new table) ≡ new
@@ -232,7 +231,8 @@ module _ (text : List ℕ) (k : ℕ) where
       go false = rw e
 
   pub span_too_long : most_bytes < length text → name_part text k ≡ empty_part
-  span_too_long l = sym (part_long text k l)
+  unfolding name_part
+  span_too_long l = rw (lt-ltb most_bytes (length text) l)
 
   module _ {bytes : List ℕ} (contract : bytes ≡ part text (name_part text k)) where
     pub name_refused : (line : ℕ) → full_reading text ≡ refused line → bytes ≡ []

@@ -9,14 +9,14 @@ ghost use Rattle.basis.specs.Sound.{Sized};
 ghost use Rattle.text.specs.Bytes.{part};
 ghost use Rattle.text.specs.Netlist.{reading};
 ghost use Rattle.text.specs.Reading.{read_by, read_into, read_outcome, name_part, listed_by, names_outcome};
-ghost use Rattle.reader.specs.AtLarge.{AtLarge};
 
-use devices::{Read, WIRE_CELLS};
-use model::{Answer, MOST_BYTES, MOST_NODES, MOST_TRANSISTORS};
-use names::NODE_CELLS;
+use devices::Netlist;
+use handing::EMPTY_PART;
+use model::{Answer, MOST_BYTES, MOST_NODES, MOST_TRANSISTORS, Network};
 use text::Span;
 
 // Reads a text that is not too long into tables within the bounds.
+#[tactic(auto, unfolding(text::specs::Reading::read_into))]
 fn read_sized(
     text: &[u8],
     kinds: &mut [u8],
@@ -29,41 +29,16 @@ fn read_sized(
     ensures { let net = net_of kinds.old types.old gates.old sources.old drains.old in
         read_by result (net_of kinds.new types.new gates.new sources.new drains.new) ≡ read_into (reading text.now (length kinds.old) (length types.old)) net }
 {
-    let mut starts = [0u16; NODE_CELLS];
-    let mut sizes = [0u8; NODE_CELLS];
-    let mut read_kinds = [0u8; NODE_CELLS];
-    let mut read_types = [0u8; WIRE_CELLS];
-    let mut read_gates = [0u16; WIRE_CELLS];
-    let mut read_sources = [0u16; WIRE_CELLS];
-    let mut read_drains = [0u16; WIRE_CELLS];
-    let read = devices::read_lines(
-        text,
-        kinds.len(),
-        types.len(),
-        &mut starts,
-        &mut sizes,
-        &mut read_kinds,
-        &mut read_types,
-        &mut read_gates,
-        &mut read_sources,
-        &mut read_drains,
-    );
-    handing::hand_over(
-        kinds,
-        types,
-        gates,
-        sources,
-        drains,
-        &read_kinds,
-        &read_types,
-        &read_gates,
-        &read_sources,
-        &read_drains,
-        read,
-    )
+    let mut list = Netlist::new(text);
+    match list.read_lines(kinds.len(), types.len()) {
+        Ok(()) => handing::hand_over(kinds, types, gates, sources, drains, &list),
+        Err(bad) => Answer::Text(bad.line),
+    }
 }
 
-// Reads a text into lent tables, whose lengths are the room for its nodes and transistors. A refusal leaves them as they came.
+// Reads a text into lent tables, whose lengths are the room for its nodes and transistors. A refusal leaves them as they came. The tables are
+// lent one by one, as the C interface has them, here and where they are handed on.
+#[tactic(auto, unfolding(text::specs::Reading::read_outcome, text::specs::Reading::read_sizes))]
 pub fn read_sim(
     text: &[u8],
     kinds: &mut [u8],
@@ -74,72 +49,53 @@ pub fn read_sim(
 ) -> Answer
     ensures { read_by result (net_of kinds.new types.new gates.new sources.new drains.new) ≡ read_outcome text.now (net_of kinds.old types.old gates.old sources.old drains.old) }
 {
-    if text.len() > MOST_BYTES {
-        return Answer::Size;
-    }
-    if sizes::wrong_check_sizes(kinds, types, gates, sources, drains) {
+    let lent = Network {
+        kinds,
+        types,
+        gates,
+        sources,
+        drains,
+    };
+    if text.len() > MOST_BYTES || sizes::wrong_check_sizes(&lent) {
         return Answer::Size;
     }
     read_sized(text, kinds, types, gates, sources, drains)
 }
 
-// Reads a text that is not too long in the largest tables, for its names.
-fn read_at_large(text: &[u8], starts: &mut [u16; NODE_CELLS], sizes: &mut [u8; NODE_CELLS]) -> Read
-    requires { (length text.now ≤ 65535) × (length starts.old ≡ 4099) × (length sizes.old ≡ 4099) }
-    ensures { AtLarge text.now starts.new sizes.new result }
-{
-    let mut kinds = [0u8; NODE_CELLS];
-    let mut types = [0u8; WIRE_CELLS];
-    let mut gates = [0u16; WIRE_CELLS];
-    let mut sources = [0u16; WIRE_CELLS];
-    let mut drains = [0u16; WIRE_CELLS];
-    devices::read_lines(
-        text,
-        MOST_NODES,
-        MOST_TRANSISTORS,
-        starts,
-        sizes,
-        &mut kinds,
-        &mut types,
-        &mut gates,
-        &mut sources,
-        &mut drains,
-    )
-}
-
 // Where the name of a node first appears in a text, and its size: the empty part for an unused number, and for a text that no tables could
 // take.
+#[tactic(auto, unfolding(text::specs::Reading::name_part, text::specs::Reading::full_reading))]
 pub fn node_span(text: &[u8], number: usize) -> Span
     ensures { result ≡ name_part text.now number }
 {
     if text.len() > MOST_BYTES {
-        return Span { start: 0, size: 0 };
+        return EMPTY_PART;
     }
-    let mut starts = [0u16; NODE_CELLS];
-    let mut sizes = [0u8; NODE_CELLS];
-    let read = read_at_large(text, &mut starts, &mut sizes);
-    handing::span_in(read, &starts, &sizes, number)
+    let mut list = Netlist::new(text);
+    match list.read_lines(MOST_NODES, MOST_TRANSISTORS) {
+        Ok(()) => handing::span_in(&list, number),
+        Err(_) => EMPTY_PART,
+    }
 }
 
 // The name of a node, as the part of the text where it first appears.
 pub fn node_name(text: &[u8], number: usize) -> &[u8]
     ensures { result.now ≡ part text.now (name_part text.now number) }
 {
-    let name = node_span(text, number);
-    let from = name.start;
-    let to = from + name.size;
-    &text[from..to]
+    node_span(text, number).of(text)
 }
 
 // Lists where the names of all nodes first appear in a text, and their sizes, by number. A refusal leaves the tables as they came.
+#[tactic(auto, unfolding(text::specs::Reading::names_outcome, text::specs::Reading::full_reading, text::specs::Reading::list_into))]
 pub fn node_names(text: &[u8], starts: &mut [u16], sizes: &mut [u8]) -> Answer
     ensures { listed_by result starts.new sizes.new ≡ names_outcome text.now starts.old sizes.old }
 {
     if text.len() > MOST_BYTES {
         return Answer::Size;
     }
-    let mut read_starts = [0u16; NODE_CELLS];
-    let mut read_sizes = [0u8; NODE_CELLS];
-    let read = read_at_large(text, &mut read_starts, &mut read_sizes);
-    handing::list_over(starts, sizes, &read_starts, &read_sizes, read)
+    let mut list = Netlist::new(text);
+    match list.read_lines(MOST_NODES, MOST_TRANSISTORS) {
+        Ok(()) => handing::list_over(starts, sizes, &list),
+        Err(bad) => Answer::Text(bad.line),
+    }
 }

@@ -1,14 +1,19 @@
 // Loops over steps: changes entered, steps until the state is settled, and from these the unit run and the ternary run, on tables
-// that were checked.
+// that were checked. `Checked` is of the network, the states and the work area together. It stands in the contracts and in no type: what is called
+// borrows states and work apart, one to read and one to write, so that a type of the three would be taken apart at every call.
 #![tactic(auto)]
 
 ghost use Rattle.std.specs.Prelude.{◌≡◌, ◌≤◌, length};
 ghost use Rattle.model.specs.Bounds.{highest_limit};
-ghost use Rattle.model.specs.Net.{net_of, is_input, step};
-ghost use Rattle.model.specs.Run.{changes_of, settle, limit_of, unit_steps};
+ghost use Rattle.model.specs.Lent.{lent, asked};
+ghost use Rattle.model.specs.Net.{nodes, is_input, step};
+ghost use Rattle.model.specs.Run.{settle, limit_of, unit_steps};
 ghost use Rattle.model.specs.Demands.{Enterable};
 ghost use Rattle.basis.specs.Sound.{Checked, Named};
-ghost use Rattle.basis.specs.Steps.{rule_one, Stepped, Told, Ended, Halved};
+ghost use Rattle.basis.specs.Steps.{rule_one, Stepped, Told, Halved};
+ghost use Rattle.runs.specs.Results.{EndedAs, count};
+
+use model::{ChangeList, Network};
 
 // What a step changed: the first node, or the number of nodes where it changed none; and how many.
 #[derive(Clone, Copy)]
@@ -17,10 +22,9 @@ pub struct Moved {
     pub count: u32,
 }
 
-// How steps ended: settled or not, the first node that the next step would change, and after how many.
+// Steps that have not settled: the first node that the next one would change, and how many were taken.
 #[derive(Clone, Copy)]
-pub struct Ran {
-    pub ends: bool,
+pub struct Moving {
     pub place: u32,
     pub count: u32,
 }
@@ -33,20 +37,12 @@ pub struct Halves {
 }
 
 // One step; the first node that differs after it, and how many do.
-pub fn step_once(
-    kinds: &[u8],
-    states: &mut [u8],
-    types: &[u8],
-    gates: &[u16],
-    sources: &[u16],
-    drains: &[u16],
-    work: &mut [u16],
-) -> Moved
-    requires { Checked (net_of kinds.now types.now gates.now sources.now drains.now) states.old (length work.old) }
-    ensures { let net = net_of kinds.now types.now gates.now sources.now drains.now in
-        Stepped (rule_one net) states.old work.old result.first result.count states.new work.new }
+pub fn step_once(net: &Network, states: &mut [u8], work: &mut [u16]) -> Moved
+    requires { Checked (lent net.now) states.old (length work.old) }
+    ensures { let by = rule_one (lent net.now) in
+        Stepped by states.old work.old result.first result.count states.new work.new }
 {
-    stepper::evaluate(kinds, states, types, gates, sources, drains, work);
+    stepper::evaluate(net, states, work);
     let first = cells::first_changed(states, work);
     let count = cells::differing(states, work);
     cells::store(states, work);
@@ -54,123 +50,93 @@ pub fn step_once(
 }
 
 // Whether a step would alter nothing.
-pub fn settled(
-    kinds: &[u8],
-    states: &[u8],
-    types: &[u8],
-    gates: &[u16],
-    sources: &[u16],
-    drains: &[u16],
-    work: &mut [u16],
-) -> bool
-    requires { Checked (net_of kinds.now types.now gates.now sources.now drains.now) states.now (length work.old) }
-    ensures { let net = net_of kinds.now types.now gates.now sources.now drains.now in
-        Told (rule_one net) states.now work.old result work.new }
+pub fn settled(net: &Network, states: &[u8], work: &mut [u16]) -> bool
+    requires { Checked (lent net.now) states.now (length work.old) }
+    ensures { Told (rule_one (lent net.now)) states.now work.old result work.new }
 {
-    stepper::evaluate(kinds, states, types, gates, sources, drains, work);
+    stepper::evaluate(net, states, work);
     cells::first_changed(states, work) == states.len() as u32
 }
 
-// Steps until settled, at most `limit` of them. The step that alters nothing is not counted.
-pub fn settle(
-    kinds: &[u8],
-    states: &mut [u8],
-    types: &[u8],
-    gates: &[u16],
-    sources: &[u16],
-    drains: &[u16],
-    work: &mut [u16],
-    limit: u32,
-) -> Ran
-    requires { let net = net_of kinds.now types.now gates.now sources.now drains.now in
-        Checked net states.old (length work.old) × (limit ≤ highest_limit) }
-    ensures { let net = net_of kinds.now types.now gates.now sources.now drains.now in
+// Steps until settled, at most `limit` of them: how many, or what still moves. The step that alters nothing is not counted.
+pub fn settle(net: &Network, states: &mut [u8], limit: u32, work: &mut [u16]) -> Result<u32, Moving>
+    requires { Checked (lent net.now) states.old (length work.old) × (limit ≤ highest_limit) }
+    ensures { let net = lent net.now in
         let run = settle (step net) limit 0 states.old in
-        Ended (rule_one net) run work.old result.ends result.place result.count states.new work.new }
+        EndedAs (rule_one net) run work.old result states.new work.new }
 {
+    // No `for` over the counts: its end would never be reached.
     let mut count = 0;
     loop {
-        stepper::evaluate(kinds, states, types, gates, sources, drains, work);
+        stepper::evaluate(net, states, work);
         let place = cells::first_changed(states, work);
-        let ends = place == states.len() as u32;
-        if ends || count == limit {
-            return Ran { ends, place, count };
+        if place == states.len() as u32 {
+            return Ok(count);
+        }
+        if count == limit {
+            return Err(Moving { place, count });
         }
         cells::store(states, work);
         count += 1;
     }
 }
 
-// The limit in force: 0 stands for the default.
+// The limit in force: 0 stands for the default, as the C interface has it.
 pub fn limit_of(limit: u32) -> u32
     ensures { result ≡ limit_of limit }
 {
     if limit == 0 {
-        return model::DEFAULT_LIMIT;
+        model::DEFAULT_LIMIT
+    } else {
+        limit
     }
-    limit
 }
 
 // A unit run: the changes are entered, then steps follow.
 pub fn unit_core(
-    kinds: &[u8],
+    net: &Network,
     states: &mut [u8],
-    types: &[u8],
-    gates: &[u16],
-    sources: &[u16],
-    drains: &[u16],
-    nodes: &[u16],
-    news: &[u8],
+    changes: &ChangeList,
     limit: u32,
     work: &mut [u16],
-) -> Ran
-    requires { let net = net_of kinds.now types.now gates.now sources.now drains.now in
-        let changes = changes_of nodes.now news.now in
-        Checked net states.old (length work.old) × Named changes (length kinds.now) × (limit ≤ highest_limit) }
-    ensures { let net = net_of kinds.now types.now gates.now sources.now drains.now in
-        let run = unit_steps (step net) states.old (changes_of nodes.now news.now) limit in
-        Ended (rule_one net) run work.old result.ends result.place result.count states.new work.new }
+) -> Result<u32, Moving>
+    requires { let net = lent net.now in
+        Checked net states.old (length work.old) × Named (asked changes.now) (nodes net) × (limit ≤ highest_limit) }
+    ensures { let net = lent net.now in
+        let run = unit_steps (step net) states.old (asked changes.now) limit in
+        EndedAs (rule_one net) run work.old result states.new work.new }
 {
-    cells::enter(states, nodes, news);
-    settle(
-        kinds,
-        states,
-        types,
-        gates,
-        sources,
-        drains,
-        work,
-        limit_of(limit),
-    )
+    cells::enter(states, changes);
+    settle(net, states, limit_of(limit), work)
+}
+
+// How many steps were taken, settled or not.
+fn steps_taken(ran: Result<u32, Moving>) -> u32
+    ensures { result ≡ count ran }
+{
+    match ran {
+        Ok(count) | Err(Moving { count, .. }) => count,
+    }
 }
 
 // A ternary run: steps with the changed inputs at X, and from where these end, steps with them at their new states. As many steps
 // as there are nodes are enough for each half.
 pub fn ternary_core(
-    kinds: &[u8],
+    net: &Network,
     states: &mut [u8],
-    types: &[u8],
-    gates: &[u16],
-    sources: &[u16],
-    drains: &[u16],
-    nodes: &[u16],
-    news: &[u8],
+    changes: &ChangeList,
     work: &mut [u16],
 ) -> Halves
-    requires { let net = net_of kinds.now types.now gates.now sources.now drains.now in
-        Checked net states.old (length work.old) × (length news.now ≡ length nodes.now)
-        × Enterable (length kinds.now) (is_input net) (changes_of nodes.now news.now) }
-    ensures { let net = net_of kinds.now types.now gates.now sources.now drains.now in
-        let changes = changes_of nodes.now news.now in
-        Halved (rule_one net) states.old changes work.old result.first result.second states.new work.new }
+    requires { let net = lent net.now in
+        let changes = changes.now in
+        Checked net states.old (length work.old) × (length changes.states.now ≡ length changes.nodes.now)
+        × Enterable (nodes net) (is_input net) (asked changes) }
+    ensures { Halved (rule_one (lent net.now)) states.old (asked changes.now) work.old result.first result.second states.new work.new }
 {
-    let n = kinds.len() as u32;
-    cells::raise_changed(states, nodes, news);
-    let up = settle(kinds, states, types, gates, sources, drains, work, n);
-    cells::enter(states, nodes, news);
-    let down = settle(kinds, states, types, gates, sources, drains, work, n);
-    Halves {
-        first: up.count,
-        second: down.count,
-    }
+    let n = net.kinds.len() as u32;
+    cells::raise_changed(states, changes);
+    let first = steps_taken(settle(net, states, n, work));
+    cells::enter(states, changes);
+    let second = steps_taken(settle(net, states, n, work));
+    Halves { first, second }
 }

@@ -1,3 +1,3 @@
 -- What the proofs of the scan cite.
-mod Opening
-mod Ends
+pub mod Opening
+pub mod Ends

@@ -1,14 +1,13 @@
 // The tests of SIZE: whether a length that is lent breaks the bounds or the equal lengths.
 #![tactic(auto)]
 
-ghost use Rattle.std.specs.Prelude.{◌≤◌, ◌≡◌, []};
+ghost use Rattle.std.specs.Prelude.{◌≤◌, ◌≡◌};
 ghost use Rattle.model.specs.Bounds.{most_nodes, most_transistors, cells_for};
 ghost use Rattle.model.specs.Places.{any};
-ghost use Rattle.model.specs.Net.{net_of};
-ghost use Rattle.model.specs.Run.{changes_of};
+ghost use Rattle.model.specs.Lent.{lent, asked};
 ghost use Rattle.model.specs.Rules.{node_sizes, wire_sizes, change_sizes, check_sizes, reset_sizes, step_sizes, run_sizes};
 
-use model::{MOST_CHANGES, MOST_NODES, MOST_TRANSISTORS};
+use model::{ChangeList, MOST_CHANGES, MOST_NODES, MOST_TRANSISTORS, Network};
 
 // The work cells that a network of so many nodes and transistors needs.
 pub fn cells_for(nodes: usize, transistors: usize) -> usize
@@ -21,99 +20,53 @@ pub fn cells_for(nodes: usize, transistors: usize) -> usize
 fn wrong_node_sizes(kinds: &[u8]) -> bool
     ensures { result ≡ any (node_sizes kinds.now) }
 {
-    let n = kinds.len();
-    if n < 1 {
-        return true;
-    }
-    n > MOST_NODES
+    kinds.is_empty() || kinds.len() > MOST_NODES
 }
 
 // Of the network it reads the transistors alone.
-fn wrong_wire_sizes(types: &[u8], gates: &[u16], sources: &[u16], drains: &[u16]) -> bool
-    ensures { result ≡ any (wire_sizes (net_of [] types.now gates.now sources.now drains.now)) }
+fn wrong_wire_sizes(net: &Network) -> bool
+    ensures { result ≡ any (wire_sizes (lent net.now)) }
 {
-    let m = types.len();
-    if m > MOST_TRANSISTORS {
-        return true;
-    }
-    if gates.len() != m {
-        return true;
-    }
-    if sources.len() != m {
-        return true;
-    }
-    drains.len() != m
+    let transistors = net.types.len();
+    transistors > MOST_TRANSISTORS
+        || net.gates.len() != transistors
+        || net.sources.len() != transistors
+        || net.drains.len() != transistors
 }
 
-fn wrong_change_sizes(named: &[u16], values: &[u8]) -> bool
-    ensures { result ≡ any (change_sizes (changes_of named.now values.now)) }
+fn wrong_change_sizes(changes: &ChangeList) -> bool
+    ensures { result ≡ any (change_sizes (asked changes.now)) }
 {
-    if values.len() != named.len() {
-        return true;
-    }
-    named.len() > MOST_CHANGES
+    let entries = changes.nodes.len();
+    changes.states.len() != entries || entries > MOST_CHANGES
 }
 
-pub fn wrong_check_sizes(
-    kinds: &[u8],
-    types: &[u8],
-    gates: &[u16],
-    sources: &[u16],
-    drains: &[u16],
-) -> bool
-    ensures { result ≡ any (check_sizes (net_of kinds.now types.now gates.now sources.now drains.now)) }
+#[tactic(auto, unfolding(model::specs::Rules::check_sizes))]
+pub fn wrong_check_sizes(net: &Network) -> bool
+    ensures { result ≡ any (check_sizes (lent net.now)) }
 {
-    if wrong_node_sizes(kinds) {
-        return true;
-    }
-    wrong_wire_sizes(types, gates, sources, drains)
+    wrong_node_sizes(net.kinds) || wrong_wire_sizes(net)
 }
 
+#[tactic(auto, unfolding(model::specs::Rules::reset_sizes))]
 pub fn wrong_reset_sizes(kinds: &[u8], states: &[u8]) -> bool
     ensures { result ≡ any (reset_sizes kinds.now states.now) }
 {
-    if wrong_node_sizes(kinds) {
-        return true;
-    }
-    states.len() != kinds.len()
+    wrong_node_sizes(kinds) || states.len() != kinds.len()
 }
 
-pub fn wrong_step_sizes(
-    kinds: &[u8],
-    states: &[u8],
-    types: &[u8],
-    gates: &[u16],
-    sources: &[u16],
-    drains: &[u16],
-    work: &[u16],
-) -> bool
-    ensures { result ≡ any (step_sizes (net_of kinds.now types.now gates.now sources.now drains.now) states.now work.now) }
+#[tactic(auto, unfolding(model::specs::Rules::step_sizes, model::specs::Rules::reset_sizes))]
+pub fn wrong_step_sizes(net: &Network, states: &[u8], work: &[u16]) -> bool
+    ensures { result ≡ any (step_sizes (lent net.now) states.now work.now) }
 {
-    if wrong_reset_sizes(kinds, states) {
-        return true;
-    }
-    if wrong_wire_sizes(types, gates, sources, drains) {
-        return true;
-    }
-    work.len() < cells_for(kinds.len(), types.len())
+    wrong_reset_sizes(net.kinds, states)
+        || wrong_wire_sizes(net)
+        || work.len() < cells_for(net.kinds.len(), net.types.len())
 }
 
-pub fn wrong_run_sizes(
-    kinds: &[u8],
-    states: &[u8],
-    types: &[u8],
-    gates: &[u16],
-    sources: &[u16],
-    drains: &[u16],
-    named: &[u16],
-    values: &[u8],
-    work: &[u16],
-) -> bool
-    ensures { let net = net_of kinds.now types.now gates.now sources.now drains.now in
-        result ≡ any (run_sizes net states.now (changes_of named.now values.now) work.now) }
+#[tactic(auto, unfolding(model::specs::Rules::run_sizes, model::specs::Rules::step_sizes))]
+pub fn wrong_run_sizes(net: &Network, states: &[u8], changes: &ChangeList, work: &[u16]) -> bool
+    ensures { result ≡ any (run_sizes (lent net.now) states.now (asked changes.now) work.now) }
 {
-    if wrong_step_sizes(kinds, states, types, gates, sources, drains, work) {
-        return true;
-    }
-    wrong_change_sizes(named, values)
+    wrong_step_sizes(net, states, work) || wrong_change_sizes(changes)
 }

@@ -18,6 +18,7 @@ use Rattle.basis.specs.Sound.{Checked}
 use Rattle.branches.specs.Branch.{Wires, near}
 use Rattle.branches.specs.Code.{strength_of, mark, rank, unlike, begin}
 use Rattle.branches.proofs.Codes.{unlike_0, unlike_1, begin_offered, begin_real, begin-bare, strength_real}
+use Rattle.layout.proofs.Told.{closed_passes, doubtful_passes}
 use Rattle.layout.specs.Layout.{wires, shut, doubtful, Behind, behind, Source, itself, given, Tells, Offered, nothing, something, LaidOut}
 use Rattle.joined.specs.Sets.{Joined, here, on, SetOf}
 use Rattle.stepper.proofs.Drawn.{joins_back, draws, near_inside}
@@ -70,16 +71,6 @@ able : (x : Stand) → choose x true ≡ true → Able x
 able opened e = absurd (true≢false (sym e))
 able closed e = surely refl
 able unknown e = perhaps refl
-
-shut_able : (x : Stand) → choose x false ≡ true → choose x true ≡ true
-shut_able opened e = e
-shut_able closed e = refl
-shut_able unknown e = refl
-
-doubtful_able : (x : Stand) → (choose x true && not (choose x false)) ≡ true → choose x true ≡ true
-doubtful_able opened e = e
-doubtful_able closed e = refl
-doubtful_able unknown e = refl
 
 module _ (net : Net) (s : List ℕ) where
   -- the definite strengths
@@ -196,14 +187,14 @@ module _ (net : Net) (s : List ℕ) {room : ℕ} (C : Checked net s room) {w₀ 
 
     -- what the strongest source that is not at b brings to r
     ours_comes : (x : ℕ) → Ours net s C L i T.k x → (x ≡ b → ⊥) → Comes r T.k
-    ours_comes x (u, j, a, p) d = along allowed (strongly net s) (start net s b) (λ t o. shut_able (stand_at net s t) o) (λ u j. low_in j) j (go p)
+    ours_comes x (u, j, a, p) d = along allowed (strongly net s) (start net s b) (λ t o. closed_passes (stand_at net s t) o) (λ u j. low_in j) j (go p)
       where
         go : Source net s (transistors net) u T.k x → Comes u T.k
         go (itself e f) =
             let g : start net s b u ≡ T.k = start_own net s b u (besides_ne net s b u x f d) (omega (arith, e, low_in j)) ∙ sym e in
             subst (λ (k : ℕ). Comes u k) g (began u a.0)
         go (given e (behind t v l q z y o f)) =
-            subst (λ (k : ℕ). Comes u k) (sym e) (input_comes j q z y (shut_able (stand_at net s t) o) (besides_ne net s b v x f d))
+            subst (λ (k : ℕ). Comes u k) (sym e) (input_comes j q z y (closed_passes (stand_at net s t) o) (besides_ne net s b v x f d))
 
     -- where its own source counts, the set's strongest are not all at b
     own_counts : besides net s b r ≡ true → strongly net s r ≤ F.own r → unlike b T.m ≡ true
@@ -241,7 +232,7 @@ module _ (net : Net) (s : List ℕ) {room : ℕ} (C : Checked net s room) {w₀ 
     offer_comes (something Q) o = go (Q.there b lb (subst (λ (z : ℕ). unlike b z ≡ true) (offer_mark Q) o))
       where
         go : (x : ℕ) × ((Q.k ≡ 3) × Behind net s (doubtful net s) (transistors net) r x) × (x ≡ b → ⊥) → Comes r 3
-        go (x, (e, behind t v l q z y o f), d) = input_comes here q z y (doubtful_able (stand_at net s t) o) (besides_ne net s b v x f d)
+        go (x, (e, behind t v l q z y o f), d) = input_comes here q z y (doubtful_passes (stand_at net s t) o) (besides_ne net s b v x f d)
 
     offer_all : {u : ℕ} → Offered net s (transistors net) r u → (x : ℕ) → Behind net s (doubtful net s) (transistors net) r x → (x ≡ b → ⊥) → unlike b (mark u) ≡ true
     offer_all (nothing e f) x p d = absurd (f x p)

@@ -2,15 +2,15 @@
 use Prim.Native.Nat.{ℕ, zero, suc, ◌+◌, ◌*◌, ◌≤◌, ◌<◌}
 use native.Mathlib.Omega.{arith}
 use native.Mathlib.Decide.{ℕ_discrete}
-use mathlib.Core.Path.{◌≡◌, refl, sym, ◌∙◌, subst}
+use mathlib.Core.Path.{◌≡◌, refl, sym, subst}
 use mathlib.Core.Logic.{◌⊎◌, inl, inr}
 use mathlib.Core.Bool.{true}
 use mathlib.Core.List.{List}
+use Rattle.std.specs.Prelude.{None, Some}
 use Rattle.model.specs.Places.{at}
 use Rattle.branches.specs.Branch.{Wires, near, far, branches, followed, amount}
 use Rattle.branches.proofs.Ends.{followed-listed}
-use Rattle.strengths.specs.Spread.{cell, member_at, Ready, Filled}
-use Rattle.strengths.proofs.Members.{member_each, member_listed}
+use Rattle.strengths.specs.Spread.{cell, Ready, Filled}
 use Rattle.stepper.specs.Step.{Listing, Fillable, Full}
 
 -- whether a node is in a list of cells
@@ -33,35 +33,29 @@ module _ {G : Wires} {table kept : ℕ} {w : List ℕ} (R : Fillable G table kep
   n = G.size
 
   -- among all nodes
-  each : (k : ℕ) → member_at 0 w k ≡ k
-  each k = sym (member_each 0 k w refl)
-
-  pub ready_all : Ready G table 0 n (2 * n) w
+  pub ready_all : Ready G table None n (2 * n) w
   ready_all = record {
     laid = R.laid;
     linked = R.linked;
     place = R.place;
     part = record {
-      nodes = λ k l. rw (each k) l;
-      once = λ j k a l e. absurd (omega (arith, sym (each j) ∙ e ∙ each k));
-      closed = λ k h a l o e. (far G h, R.laid.fars h l, each (far G h));
+      nodes = λ k l. l;
+      once = λ j k a l e. omega arith;
+      closed = λ k h a l o e. (far G h, R.laid.fars h l, refl);
       behind = omega arith;
       fits = omega arith;
-      apart = inl refl;
+      apart = tt;
     };
   }
 
-  pub small_all : (k : ℕ) → k < n → cell w table (member_at 0 w k) ≤ 7
-  small_all k l = rw (each k) (R.small k l)
-
-  pub full_all : {w' : List ℕ} → (2 * kept ≤ n → ⊥) → Filled G true table 0 n (2 * n) 0 w w' → Full G table kept w w'
+  pub full_all : {w' : List ℕ} → (2 * kept ≤ n → ⊥) → Filled G true table None n (2 * n) 0 w w' → Full G table kept w w'
   full_all d z = record {
     other = λ j o l. z.other j o (inl l);
     list = λ l. absurd (d l);
     after = λ j l. z.other j (inr (omega (arith, R.place))) (inr (omega arith));
     above = z.above;
     sound = z.sound;
-    shut = λ k h p l o e. z.shut (near G h) k h (R.laid.nears h l) p l o (sym (each (near G h))) e;
+    shut = λ k h p l o e. z.shut (near G h) k h (R.laid.nears h l) p l o refl e;
   }
 
   -- among the kept
@@ -69,28 +63,25 @@ module _ {G : Wires} {table kept : ℕ} {w : List ℕ} (R : Fillable G table kep
     L : Listing G table kept w
     L = R.listing room
 
-    member : (k : ℕ) → k < kept → member_at (2 * n) w k ≡ at w (2 * n + k)
-    member k l = sym (member_listed (2 * n) k w (λ e. absurd (omega arith)))
-
-    pub ready_kept : Ready G table (2 * n) kept (2 * n + kept) w
+    pub ready_kept : Ready G table (Some (2 * n)) kept (2 * n + kept) w
     ready_kept = record {
       laid = R.laid;
       linked = R.linked;
       place = R.place;
       part = record {
-        nodes = λ k l. rw (member k l) (L.nodes k l);
-        once = λ j k a l e. L.once j k a l (sym (member j (omega arith)) ∙ e ∙ member k l);
-        closed = λ k h a l o e. let r = L.closed k h a l o (e ∙ member k a) in (r.0, r.1, member r.0 r.1 ∙ r.2);
+        nodes = L.nodes;
+        once = L.once;
+        closed = L.closed;
         behind = omega arith;
         fits = omega arith;
-        apart = inr (omega arith, omega (arith, R.laid.fits), omega (arith, R.laid.few_nodes), inl (omega arith));
+        apart = (omega arith, omega (arith, R.laid.fits), omega (arith, R.laid.few_nodes), inl (omega arith));
       };
     }
 
-    pub small_kept : (k : ℕ) → k < kept → cell w table (member_at (2 * n) w k) ≤ 7
-    small_kept k l = rw (member k l) (R.small _ (L.nodes k l))
+    pub small_kept : (k : ℕ) → k < kept → cell w table (at w (2 * n + k)) ≤ 7
+    small_kept k l = R.small _ (L.nodes k l)
 
-    pub full_kept : {w' : List ℕ} → Filled G true table (2 * n) kept (2 * n + kept) 0 w w' → Full G table kept w w'
+    pub full_kept : {w' : List ℕ} → Filled G true table (Some (2 * n)) kept (2 * n + kept) 0 w w' → Full G table kept w w'
     full_kept {w'} z = record {
       other = λ j o l. z.other j o (inl (omega arith));
       list = λ r j l. z.other (2 * n + j) (inr (omega (arith, R.place))) (inl (omega arith));
@@ -102,7 +93,7 @@ module _ {G : Wires} {table kept : ℕ} {w : List ℕ} (R : Fillable G table kep
       where
         go : (k h : ℕ) → 0 < k → h < branches G → followed G true h ≡ true → cell w' table (near G h) ≡ 2 * k + 1
             → ((j : ℕ) × (j < kept) × (at w (2 * n + j) ≡ near G h)) ⊎ ((j : ℕ) → j < kept → at w (2 * n + j) ≡ near G h → ⊥) → 2 * amount G k h ≤ cell w' table (far G h)
-        go k h p l o e (inl (j, a, q)) = z.shut j k h a p l o (sym q ∙ sym (member j a)) e
+        go k h p l o e (inl (j, a, q)) = z.shut j k h a p l o (sym q) e
         go k h p l o e (inr f) =
-            let same : cell w' table (near G h) ≡ cell w table (near G h) = z.apart (near G h) (R.laid.nears h l) (λ j a q. f j a (sym (member j a) ∙ q)) in
+            let same : cell w' table (near G h) ≡ cell w table (near G h) = z.apart (near G h) (R.laid.nears h l) f in
             omega (arith, e, same, L.quiet h l (followed-listed G true h o) f, z.above (far G h) (R.laid.fars h l))

@@ -5,3 +5,4 @@ mod Begins
 mod Fills
 mod Tables
 mod Steps
+mod Whole

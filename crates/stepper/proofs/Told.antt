@@ -1,11 +1,11 @@
 -- What the cells of a joined set tell together: of all its sources. Assumes nothing.
-use Prim.Native.Nat.{ℕ, ◌+◌, ◌/◌, ◌%◌, ◌≤◌, ◌<◌}
+use Prim.Native.Nat.{ℕ, ◌+◌, ◌/◌, ◌≤◌, ◌<◌}
 use native.Mathlib.Omega.{arith}
 use native.Mathlib.Decide.{ℕ_discrete, dec_lt}
 use mathlib.Core.Path.{◌≡◌, refl, sym, ◌∙◌, subst}
-use mathlib.Core.Bool.{Bool, true, false}
+use mathlib.Core.Logic.{inl, inr}
+use mathlib.Core.Bool.{Bool, true, false, true≢false}
 use mathlib.Core.List.{List, []}
-use borrow.Author.Tests.{eq-eqb, eqb-false, leb-false, le-leb}
 use Rattle.model.specs.Places.{at}
 use Rattle.model.specs.Net.{Net, nodes, transistors}
 use Rattle.model.specs.Ways.{Inside}
@@ -13,21 +13,15 @@ use Rattle.model.specs.RuleOne.{frame}
 use Rattle.basis.specs.Sound.{Checked}
 use Rattle.branches.specs.Branch.{Wires}
 use Rattle.branches.specs.Code.{telling, mark, together, unlike}
-use Rattle.branches.proofs.Codes.{unlike_0, unlike_1, together-same, together-mixed, together_second, together-first}
+use Rattle.branches.proofs.Codes.{together-same, together-mixed, together_second, together-first}
+use Rattle.layout.proofs.Telling.{unlike_either}
 use Rattle.layout.specs.Layout.{wires, Source, Tells, LaidOut}
 use Rattle.joined.specs.Sets.{Joined, here, on, Sum, one, both, SetOf}
 use Rattle.stepper.proofs.Drawn.{draws}
 
 -- of two marks one is unlike b, if they differ
-one-unlike : (b m n : ℕ) → b ≤ 1 → (1 ≤ m) × (m ≤ 3) → (1 ≤ n) × (n ≤ 3) → (m ≡ n → ⊥) → unlike b m ≡ false → unlike b n ≡ true
-one-unlike b m n l (m1, m3) (n1, n3) d e = go (ℕ_discrete b 0)
-  where
-    go : Dec (b ≡ 0) → unlike b n ≡ true
-    go (yes q) = let f : m < 2 = leb-false 2 m (unlike_0 b m q ∙ e) in sym (unlike_0 b n q) ∙ le-leb 2 n (omega arith)
-    go (no q) = let f : m % 2 ≡ 1 → ⊥ = eqb-false (m % 2) 1 (unlike_1 b m q ∙ e) in sym (unlike_1 b n q) ∙ eq-eqb (n % 2) 1 (odd f)
-      where
-        odd : (m % 2 ≡ 1 → ⊥) → n % 2 ≡ 1
-        odd f = let g : m ≡ 2 = omega arith in omega arith
+one-unlike : (b m n : ℕ) → (1 ≤ m) × (m ≤ 3) → (1 ≤ n) × (n ≤ 3) → (m ≡ n → ⊥) → unlike b m ≡ false → unlike b n ≡ true
+one-unlike b m n (m1, m3) (n1, n3) d e = elim (unlike_either b m n d m1 m3 n1 n3) [ inl u ↦ absurd (true≢false (sym u ∙ e)) | inr u ↦ u ]
 
 -- whatever a cell tells is there
 record Shown (P : ℕ → ℕ → Type 0) (c : ℕ) : Type 0 where
@@ -65,7 +59,7 @@ module _ {P : ℕ → ℕ → Type 0} {a b : ℕ} (A : Shown P a) (B : Shown P b
           from : (z : ℕ) → z ≤ 1 → (x : Bool) → unlike z A.m ≡ x → (y : ℕ) × P A.k y × (y ≡ z → ⊥)
           from z q true u = A.there z q u
           from z q false u =
-              let r = B.there z q (one-unlike z A.m B.m q A.marked B.marked other u) in
+              let r = B.there z q (one-unlike z A.m B.m A.marked B.marked other u) in
               (r.0, subst (λ (i : ℕ). P i r.0) same r.1, r.2)
 
 module _ (net : Net) (s : List ℕ) {room : ℕ} (C : Checked net s room) {w₀ w : List ℕ} (L : LaidOut net s (transistors net) w₀ w) {r : ℕ} (inside : Inside (frame net) r) where

@@ -1,8 +1,9 @@
 -- One table of a step: filled among the nodes that are kept, and read off at the end. Assumes nothing.
-use Rattle.std.specs.Prelude.{ℕ, ◌+◌, ◌*◌, ◌%◌, ◌≤◌, ◌<◌, ◌≡◌, ◌⊎◌, Bool, true, cond, List, length, eqb}
+use Rattle.std.specs.Prelude.{ℕ, ◌+◌, ◌*◌, ◌%◌, ◌≤◌, ◌<◌, ◌≡◌, ◌⊎◌, Bool, true, cond, List, [], length, eqb}
 use Rattle.model.specs.Places.{at}
 use Rattle.model.specs.Net.{Net, is_input}
 use Rattle.branches.specs.Branch.{Wires, near, far, branches, followed, amount, Laid, Linked, wires_by}
+use Rattle.branches.specs.declared.Wiring.{Wiring}
 use Rattle.strengths.specs.Spread.{cell, Rose}
 
 module _ (G : Wires) (table kept : ℕ) where
@@ -30,13 +31,16 @@ module _ (G : Wires) (table kept : ℕ) where
     pub sound : (v : ℕ) → v < G.size → Rose G true (cell w table) v (cell w' table v)
     pub shut : (k h : ℕ) → 0 < k → h < branches G → followed G true h ≡ true → cell w' table (near G h) ≡ 2 * k + 1 → 2 * amount G k h ≤ cell w' table (far G h)
 
--- over given tables: of some branches that fit the lists, and of any
-module _ (n : ℕ) (sources drains ceilings : List ℕ) (table kept : ℕ) where
+-- over a wiring, with no ceilings: of some branches that fit the lists, and of any
+module _ (W : Wiring) (table kept : ℕ) where
+  abbrev pub wires_of : (ℕ → Bool) → (ℕ → Bool) → Wires
+  wires_of = wires_by W.nodes W.sources.now W.drains.now []
+
   abbrev pub FillableSome : List ℕ → Type 0
-  FillableSome w = (listed : ℕ → Bool) × (unsure : ℕ → Bool) × Fillable (wires_by n sources drains ceilings listed unsure) table kept w
+  FillableSome w = (listed : ℕ → Bool) × (unsure : ℕ → Bool) × Fillable (wires_of listed unsure) table kept w
 
   abbrev pub FullAny : List ℕ → List ℕ → Type 0
-  FullAny w w' = (listed unsure : ℕ → Bool) → Fillable (wires_by n sources drains ceilings listed unsure) table kept w → Full (wires_by n sources drains ceilings listed unsure) table kept w w'
+  FullAny w w' = (listed unsure : ℕ → Bool) → Fillable (wires_of listed unsure) table kept w → Full (wires_of listed unsure) table kept w w'
 
 -- a node's next state by the cells of the tables against 0 and against 1: 0 where nothing stands against 0, 1 where nothing stands against 1, else X
 abbrev pub decided : ℕ → ℕ → ℕ

@@ -7,21 +7,23 @@ use mathlib.Core.Path.{◌≡◌, refl, sym, ap, ◌∙◌, subst}
 use mathlib.Core.Bool.{Bool, true}
 use mathlib.Core.List.{List}
 use lib.ListN.{length}
+use Rattle.std.specs.Prelude.{Option}
 use Rattle.branches.specs.Branch.{Wires, near, far, branches, followed, amount, degrees}
 use Rattle.branches.proofs.Degrees.{total-same}
-use Rattle.strengths.specs.Spread.{cell, member_at, began, Ready, Filled}
-use Rattle.strengths.specs.Level.{Level}
+use Rattle.strengths.specs.declared.Spread.{Spread}
+use Rattle.strengths.specs.Spread.{cell, member_at, began, Ready, Filled, wires_of}
+use Rattle.strengths.specs.Level.{Level, Spreadable}
 use Rattle.strengths.proofs.Moves.{rose_on}
 use Rattle.strengths.proofs.Members.{member_same, ready_same}
 use Rattle.strengths.proofs.Costs.{heavier, heavier_bound, heavier_level}
 
 -- the strengths above s have spread from w to u, with so many visits
-pub record Falling (G : Wires) (all : Bool) (table order m queue s : ℕ) (w u : List ℕ) (visits : ℕ) : Type 0 where
+pub record Falling (G : Wires) (all : Bool) (table : ℕ) (order : Option ℕ) (m queue s : ℕ) (w u : List ℕ) (visits : ℕ) : Type 0 where
   pub long : length u ≡ length w
   pub filled : Filled G all table order m queue s w u
   pub spent : visits ≤ heavier (degrees G) (member_at order w) m u table (2 * s + 1)
 
-module _ {G : Wires} {table order m queue : ℕ} {w : List ℕ} (R : Ready G table order m queue w) where
+module _ {G : Wires} {table : ℕ} {order : Option ℕ} {m queue : ℕ} {w : List ℕ} (R : Ready G table order m queue w) where
   pub falling_start : {all : Bool} {top : ℕ} → ((k : ℕ) → k < m → cell w table (member_at order w k) ≤ 2 * top + 1) → Falling G all table order m queue top w w 0
   falling_start {all} {top} t = record {
     long = refl;
@@ -66,3 +68,8 @@ module _ {G : Wires} {table order m queue : ℕ} {w : List ℕ} (R : Ready G tab
         go j k h jl p l o n q (no f) =
             let same : cell u table (near G h) ≡ cell x table (near G h) = v.kept (near G h) (R.laid.nears h l) (omega arith) in
             le_trans (z.filled.shut j k h jl (omega arith) l o n (same ∙ q)) (v.above (far G h) (R.laid.fars h l))
+
+-- the next level may spread
+abbrev pub falling_spreadable : (S : Spread) {listed unsure : ℕ → Bool} {w u : List ℕ} {s visits : ℕ} → Ready (wires_of S listed unsure) S.table S.order S.members S.queue w
+    → Falling (wires_of S listed unsure) S.all S.table S.order S.members S.queue s w u visits → Spreadable S u
+falling_spreadable S {listed} {unsure} R z = record { listed = listed; unsure = unsure; ready = falling_ready R z }

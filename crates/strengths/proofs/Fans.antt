@@ -14,7 +14,8 @@ use Rattle.branches.specs.Branch.{Wires, end_of, ceiling_of, near, far, branches
 use Rattle.branches.proofs.Ends.{followed-listed}
 use Rattle.branches.proofs.Degrees.{cond_few, degree_gap, degree_last}
 use Rattle.branches.proofs.Lists.{last_low}
-use Rattle.strengths.specs.Spread.{cell}
+use Rattle.strengths.specs.declared.Spread.{Spread}
+use Rattle.strengths.specs.Spread.{cell, wires_of}
 use Rattle.strengths.specs.Level.{Visitable, Visited, Followed, passed, went, Held, Done, Moved, Fanned, Fannable}
 use Rattle.strengths.proofs.Moves.{moved_none, moved_then, held_moved, done_moved}
 use Rattle.strengths.proofs.Visits.{room-left, visited_moved, visited_done}
@@ -59,40 +60,41 @@ module _ {G : Wires} {a upto e : ℕ} (z : Heads G a upto e) where
   heads_degree : degree G a upto ≡ degree G a z.branch + 1
   heads_degree = degree_last G a z.branch upto z.lower z.starts z.listed z.last
 
-  -- the first branch of a list of a node that takes part
-  module _ {mem : ℕ → ℕ} {m table queue s : ℕ} {u : List ℕ} {tail : ℕ} (H : Held G mem m table queue s u tail) (b : upto ≤ branches G) (i : ℕ) (il : i < m) (ei : mem i ≡ a) where
-    heads_in : z.branch < branches G
-    heads_in = omega (arith, z.lower)
+-- the first branch of a list of a node that takes part
+module _ (S : Spread) {listed unsure : ℕ → Bool} {a upto e : ℕ} (z : Heads (wires_of S listed unsure) a upto e) {mem : ℕ → ℕ} {m s : ℕ} {u : List ℕ} {tail : ℕ}
+    (H : Held (wires_of S listed unsure) mem m S.table S.queue s u tail) (b : upto ≤ branches (wires_of S listed unsure)) (i : ℕ) (il : i < m) (ei : mem i ≡ a) where
+  heads_in : z.branch < branches (wires_of S listed unsure)
+  heads_in = omega (arith, z.lower)
 
-    heads_end : (j : ℕ) × (j < m) × (mem j ≡ far G z.branch)
-    heads_end = H.closed i z.branch il heads_in z.listed (z.starts ∙ sym ei)
+  heads_end : (j : ℕ) × (j < m) × (mem j ≡ far (wires_of S listed unsure) z.branch)
+  heads_end = H.closed i z.branch il heads_in z.listed (z.starts ∙ sym ei)
 
-    pub heads_visitable : s ≤ 255 → Visitable G.sources G.drains table queue s (e / 2 - 1) u tail
-    heads_visitable sl = rw heads_half (record {
-      ends = H.laid.drains;
-      there = heads_in;
-      few = omega (arith, H.laid.fars z.branch heads_in, H.laid.few_nodes);
-      place = omega (arith, H.place, H.laid.few_nodes);
-      known = omega (arith, H.laid.fits, H.place, H.laid.fars z.branch heads_in);
-      strength = sl;
-      room = λ p. let r = room-left H heads_end.0 (far G z.branch) heads_end.1 heads_end.2 (omega arith) in (omega (arith, H.fits, H.laid.fits), omega (arith, H.fits, H.laid.few_nodes));
-    })
+  pub heads_visitable : s ≤ 255 → Visitable S s (e / 2 - 1) u tail
+  heads_visitable sl = rw (heads_half z) (record {
+    ends = H.laid.drains;
+    there = heads_in;
+    few = omega (arith, H.laid.fars z.branch heads_in, H.laid.few_nodes);
+    place = omega (arith, H.place, H.laid.few_nodes);
+    known = omega (arith, H.laid.fits, H.place, H.laid.fars z.branch heads_in);
+    strength = sl;
+    room = λ p. let r = room-left H heads_end.0 (far (wires_of S listed unsure) z.branch) heads_end.1 heads_end.2 (omega arith) in (omega (arith, H.fits, H.laid.fits), omega (arith, H.fits, H.laid.few_nodes));
+  })
 
-    strong_near : cell u table a ≡ 2 * s + 1 → cell u table (near G z.branch) ≡ 2 * s + 1
-    strong_near strong = ap (cell u table) z.starts ∙ strong
+  strong_near : cell u S.table a ≡ 2 * s + 1 → cell u S.table (near (wires_of S listed unsure) z.branch) ≡ 2 * s + 1
+  strong_near strong = ap (cell u S.table) z.starts ∙ strong
 
-    module _ (strong : cell u table a ≡ 2 * s + 1) (all : Bool) {x : List ℕ} {t : ℕ} where
-      as_branch : Visited table queue s (end_of G.drains G.sources (e / 2 - 1)) (min s (ceiling_of G.ceilings ((e / 2 - 1) / 2))) u tail x t
-          → Visited table queue s (far G z.branch) (amount G s z.branch) u tail x t
-      as_branch v = rw heads_half at v
+  module _ (strong : cell u S.table a ≡ 2 * s + 1) {x : List ℕ} {t : ℕ} where
+    as_branch : Visited S.table S.queue s (end_of S.wiring.drains.now S.wiring.sources.now (e / 2 - 1)) (min s (ceiling_of S.ceilings.now ((e / 2 - 1) / 2))) u tail x t
+        → Visited S.table S.queue s (far (wires_of S listed unsure) z.branch) (amount (wires_of S listed unsure) s z.branch) u tail x t
+    as_branch v = rw (heads_half z) at v
 
-      follow_moved : Followed G.sources G.drains G.ceilings table queue all s e u tail x t → Moved G all mem m table queue s u tail x t
-      follow_moved (passed o q r) = rw (q, r) moved_none
-      follow_moved (went o v) = visited_moved H heads_in all (heads_followed all ∙ o) i il (z.starts ∙ sym ei) (strong_near strong) (as_branch v)
+    follow_moved : Followed S s e u tail x t → Moved (wires_of S listed unsure) S.all mem m S.table S.queue s u tail x t
+    follow_moved (passed o q r) = rw (q, r) moved_none
+    follow_moved (went o v) = visited_moved H heads_in S.all (heads_followed z S.all ∙ o) i il (z.starts ∙ sym ei) (strong_near strong) (as_branch v)
 
-      follow_done : Followed G.sources G.drains G.ceilings table queue all s e u tail x t → followed G all z.branch ≡ true → Done G table s x z.branch
-      follow_done (passed o q r) f = absurd (true≢false (sym f ∙ heads_followed all ∙ o))
-      follow_done (went o v) f = visited_done H heads_in all (heads_followed all ∙ o) i il (z.starts ∙ sym ei) (strong_near strong) (as_branch v)
+    follow_done : Followed S s e u tail x t → followed (wires_of S listed unsure) S.all z.branch ≡ true → Done (wires_of S listed unsure) S.table s x z.branch
+    follow_done (passed o q r) f = absurd (true≢false (sym f ∙ heads_followed z S.all ∙ o))
+    follow_done (went o v) f = visited_done H heads_in S.all (heads_followed z S.all ∙ o) i il (z.starts ∙ sym ei) (strong_near strong) (as_branch v)
 
 -- the branches at a from `upto` on were visited, and the list goes on with the entry e
 pub record Fanning (G : Wires) (all : Bool) (mem : ℕ → ℕ) (m table queue s a : ℕ) (w : List ℕ) (k : ℕ) (u : List ℕ) (tail visits e : ℕ) : Type 0 where
@@ -137,39 +139,44 @@ module _ {G : Wires} {mem : ℕ → ℕ} {m table queue s : ℕ} {w : List ℕ} 
       pub fan_place : e / 2 - 1 < branches G
       fan_place = omega (arith, heads_half fan_heads, fan_heads.lower, z.bound)
 
-      -- one turn
-      module _ (i : ℕ) (il : i < m) (ei : mem i ≡ a) (strong : cell w table a ≡ 2 * s + 1) {x : List ℕ} {t : ℕ} (f : Followed G.sources G.drains G.ceilings table queue all s e u tail x t) where
-        turn : Moved G all mem m table queue s u tail x t
-        turn = follow_moved fan_heads fan_held z.bound i il ei (z.moved.stays a (rw ei at (H.nodes i il)) strong) all f
+-- one turn
+module _ (S : Spread) {listed unsure : ℕ → Bool} {mem : ℕ → ℕ} {m s : ℕ} {w : List ℕ} {k : ℕ} (H : Held (wires_of S listed unsure) mem m S.table S.queue s w k) {a : ℕ} {u : List ℕ} {tail visits e : ℕ}
+    (z : Fanning (wires_of S listed unsure) S.all mem m S.table S.queue s a w k u tail visits e) (p : e ≡ 0 → ⊥) (i : ℕ) (il : i < m) (ei : mem i ≡ a) (strong : cell w S.table a ≡ 2 * s + 1) {x : List ℕ} {t : ℕ}
+    (f : Followed S s e u tail x t) where
+  first : Heads (wires_of S listed unsure) a z.upto e
+  first = fan_heads H z p
 
-        both : Moved G all mem m table queue s w k x t
-        both = moved_then H z.moved turn
+  turn : Moved (wires_of S listed unsure) S.all mem m S.table S.queue s u tail x t
+  turn = follow_moved S first (fan_held H z) z.bound i il ei (z.moved.stays a (rw ei at (H.nodes i il)) strong) f
 
-        next-same : at x (4 * G.size + (e / 2 - 1)) ≡ at w (4 * G.size + fan_heads.branch)
-        next-same = rw (heads_half fan_heads) (both.other (4 * G.size + fan_heads.branch) (inr (omega (arith, H.place))) (inr (omega (arith, H.fits))))
+  both : Moved (wires_of S listed unsure) S.all mem m S.table S.queue s w k x t
+  both = moved_then H z.moved turn
 
-        next_last : Last G (near G fan_heads.branch) fan_heads.branch (at w (4 * G.size + fan_heads.branch))
-        next_last = H.linked.next fan_heads.branch (omega (arith, fan_heads.lower, z.bound)) fan_heads.listed
+  next-same : at x (4 * S.wiring.nodes + (e / 2 - 1)) ≡ at w (4 * S.wiring.nodes + first.branch)
+  next-same = rw (heads_half first) (both.other (4 * S.wiring.nodes + first.branch) (inr (omega (arith, H.place))) (inr (omega (arith, H.fits))))
 
-        pub fan_turn : Fanning G all mem m table queue s a w k x t (visits + 1) (at x (4 * G.size + (e / 2 - 1)))
-        fan_turn = record {
-          moved = both;
-          upto = fan_heads.branch;
-          bound = omega (arith, fan_heads.lower, z.bound);
-          rest = rw next-same (subst (λ (v : ℕ). Last G v fan_heads.branch (at w (4 * G.size + fan_heads.branch))) fan_heads.starts next_last);
-          done = λ g q l n o. go g q l n o (ℕ_discrete g fan_heads.branch) (dec_lt g z.upto);
-          counted = omega (arith, z.counted, heads_degree fan_heads);
-        }
-          where
-            go : (g : ℕ) → fan_heads.branch ≤ g → g < branches G → near G g ≡ a → followed G all g ≡ true → Dec (g ≡ fan_heads.branch) → Dec (g < z.upto) → Done G table s x g
-            go g q l n o (yes c) _ = rw c (follow_done fan_heads fan_held z.bound i il ei (z.moved.stays a (rw ei at (H.nodes i il)) strong) all f (rw c at o))
-            go g q l n o (no c) (yes y) = absurd (fan_heads.last g (omega arith) y n (followed-listed G all g o))
-            go g q l n o (no c) (no y) = done_moved fan_held turn l (z.done g (omega arith) l n o)
+  next_last : Last (wires_of S listed unsure) (near (wires_of S listed unsure) first.branch) first.branch (at w (4 * S.wiring.nodes + first.branch))
+  next_last = H.linked.next first.branch (omega (arith, first.lower, z.bound)) first.listed
 
-        -- the next entry is lower
-        pub fan_less : at x (4 * G.size + (e / 2 - 1)) < e
-        fan_less = omega (arith, next-same, last_low next_last, fan_heads.is)
+  pub fan_turn : Fanning (wires_of S listed unsure) S.all mem m S.table S.queue s a w k x t (visits + 1) (at x (4 * S.wiring.nodes + (e / 2 - 1)))
+  fan_turn = record {
+    moved = both;
+    upto = first.branch;
+    bound = omega (arith, first.lower, z.bound);
+    rest = rw next-same (subst (λ (v : ℕ). Last (wires_of S listed unsure) v first.branch (at w (4 * S.wiring.nodes + first.branch))) first.starts next_last);
+    done = λ g q l n o. go g q l n o (ℕ_discrete g first.branch) (dec_lt g z.upto);
+    counted = omega (arith, z.counted, heads_degree first);
+  }
+    where
+      go : (g : ℕ) → first.branch ≤ g → g < branches (wires_of S listed unsure) → near (wires_of S listed unsure) g ≡ a → followed (wires_of S listed unsure) S.all g ≡ true → Dec (g ≡ first.branch) → Dec (g < z.upto) → Done (wires_of S listed unsure) S.table s x g
+      go g q l n o (yes c) _ = rw c (follow_done S first (fan_held H z) z.bound i il ei (z.moved.stays a (rw ei at (H.nodes i il)) strong) f (rw c at o))
+      go g q l n o (no c) (yes y) = absurd (first.last g (omega arith) y n (followed-listed (wires_of S listed unsure) S.all g o))
+      go g q l n o (no c) (no y) = done_moved (fan_held H z) turn l (z.done g (omega arith) l n o)
+
+  -- the next entry is lower
+  pub fan_less : at x (4 * S.wiring.nodes + (e / 2 - 1)) < e
+  fan_less = omega (arith, next-same, last_low next_last, first.is)
 
 -- a node whose branches are to be visited is a node
-pub fannable_in : {n : ℕ} {sources drains ceilings : List ℕ} {table queue s a : ℕ} {w : List ℕ} {k : ℕ} → Fannable n sources drains ceilings table queue s a w k → a < n
+pub fannable_in : {S : Spread} {s a : ℕ} {w : List ℕ} {k : ℕ} → Fannable S s a w k → a < S.wiring.nodes
 fannable_in z = rw z.member at (z.held.nodes z.place z.inside)

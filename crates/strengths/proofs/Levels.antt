@@ -9,18 +9,20 @@ use mathlib.Core.List.{List}
 use lib.ListN.{length, set, length-set}
 use lib.Seq.{get_or-set_same, get_or-set_other}
 use borrow.Author.Tests.{eq-eqb, ne_eqb}
+use Rattle.std.specs.Prelude.{Option}
 use Rattle.model.specs.Places.{at}
-use Rattle.branches.specs.Branch.{prefix, Wires, near, branches, followed, degrees, wires_by}
+use Rattle.branches.specs.Branch.{prefix, Wires, near, branches, followed, degrees}
 use Rattle.branches.proofs.Degrees.{total-zero, total-next, total_ones, total-same, total-part, prefix_same}
 use Rattle.branches.proofs.Lists.{linked-same}
-use Rattle.strengths.specs.Spread.{cell, member_at, began, Ready}
+use Rattle.strengths.specs.declared.Spread.{Spread}
+use Rattle.strengths.specs.Spread.{cell, member_at, began, Ready, wires_of}
 use Rattle.strengths.specs.Level.{share, weigh, Noted, other, noted, Gathered, Held, Done, Expanded, Moved, Fanned, Emptied, Level, Fannable, Waiting, Spreadable}
 use Rattle.strengths.proofs.Sums.{weigh_few}
 use Rattle.strengths.proofs.Moves.{rose_on, moved_none, moved_then, held_moved, expanded_moved}
 use Rattle.strengths.proofs.Members.{member_same}
 use Rattle.strengths.proofs.Costs.{weigh_bound}
 
-pub gathered_none : {table order m queue c : ℕ} {w : List ℕ} → Gathered table order m queue c w 0 w 0
+pub gathered_none : {table : ℕ} {order : Option ℕ} {m queue c : ℕ} {w : List ℕ} → Gathered table order m queue c w 0 w 0
 gathered_none {table} {order} {m} {queue} {c} {w} = record {
   long = refl;
   other = λ j _. refl;
@@ -29,7 +31,7 @@ gathered_none {table} {order} {m} {queue} {c} {w} = record {
   full = λ i l. absurd (omega arith);
 }
 
-module _ {G : Wires} {table order m queue c k tail : ℕ} {w u : List ℕ} (R : Ready G table order m queue w) (z : Gathered table order m queue c w k u tail) where
+module _ {G : Wires} {table : ℕ} {order : Option ℕ} {m queue c k tail : ℕ} {w u : List ℕ} (R : Ready G table order m queue w) (z : Gathered table order m queue c w k u tail) where
   -- no more than were looked at
   gathered_few : tail ≤ k
   gathered_few = omega (arith, sym (total_ones tail) ∙ z.sum (λ v. 1), weigh_few (member_at order w) k w table c)
@@ -113,9 +115,6 @@ module _ {G : Wires} {table order m queue c k tail : ℕ} {w u : List ℕ} (R : 
       on (other d) = gathered_skip kl d
       on (noted q) = gathered_take kl q
 
-pub gathered_end : {table order m queue c k tail : ℕ} {w u : List ℕ} → k ≡ m → Gathered table order m queue c w k u tail → Gathered table order m queue c w m u tail
-gathered_end {table} {order} {m} {queue} {c} {k} {tail} {w} {u} e z = subst (λ (i : ℕ). Gathered table order m queue c w i u tail) e z
-
 -- the nodes before the k-th of the queue were taken from it
 pub record Emptying (G : Wires) (all : Bool) (mem : ℕ → ℕ) (m table queue s : ℕ) (w : List ℕ) (end : ℕ) (u : List ℕ) (tail visits k : ℕ) : Type 0 where
   pub moved : Moved G all mem m table queue s w end u tail
@@ -126,27 +125,27 @@ pub record Emptying (G : Wires) (all : Bool) (mem : ℕ → ℕ) (m table queue 
 pub empty_start : {G : Wires} {all : Bool} {mem : ℕ → ℕ} {m table queue s end : ℕ} {w : List ℕ} → Emptying G all mem m table queue s w end w end 0 0
 empty_start {G} {queue = queue} {w = w} = record { moved = moved_none; bound = omega arith; expanded = λ j l. absurd (omega arith); counted = sym (total-zero (λ j. degrees G (at w (queue + j)))) }
 
-module _ {n : ℕ} {sources drains ceilings : List ℕ} {table queue s end : ℕ} {w : List ℕ} (y : Waiting n sources drains ceilings table queue s w end) where
+module _ {S : Spread} {s end : ℕ} {w : List ℕ} (y : Waiting S s w end) where
   abbrev G : Wires
-  G = wires_by n sources drains ceilings y.listed y.unsure
+  G = wires_of S y.listed y.unsure
 
-  module _ {all : Bool} {u : List ℕ} {tail visits k : ℕ} (z : Emptying G all y.mem y.m table queue s w end u tail visits k) where
-    pub empty_held : Held G y.mem y.m table queue s u tail
+  module _ {all : Bool} {u : List ℕ} {tail visits k : ℕ} (z : Emptying G all y.mem y.m S.table S.queue s w end u tail visits k) where
+    pub empty_held : Held G y.mem y.m S.table S.queue s u tail
     empty_held = held_moved y.held z.moved
 
     -- each node of the queue takes part and has the strength s
-    pub empty_queued : (j : ℕ) → j < tail → (i : ℕ) × (i < y.m) × (at u (queue + j) ≡ y.mem i) × (cell u table (y.mem i) ≡ 2 * s + 1)
+    pub empty_queued : (j : ℕ) → j < tail → (i : ℕ) × (i < y.m) × (at u (S.queue + j) ≡ y.mem i) × (cell u S.table (y.mem i) ≡ 2 * s + 1)
     empty_queued j l = go (dec_lt j end)
       where
-        go : Dec (j < end) → (i : ℕ) × (i < y.m) × (at u (queue + j) ≡ y.mem i) × (cell u table (y.mem i) ≡ 2 * s + 1)
+        go : Dec (j < end) → (i : ℕ) × (i < y.m) × (at u (S.queue + j) ≡ y.mem i) × (cell u S.table (y.mem i) ≡ 2 * s + 1)
         go (yes p) = let q = y.queued j p in (q.0, q.1, z.moved.old j p ∙ q.2, z.moved.stays (y.mem q.0) (y.held.nodes q.0 q.1) q.3)
         go (no p) = z.moved.fresh j (omega arith) l
 
     pub empty_few : tail ≤ y.m
-    empty_few = omega (arith, empty_held.counted, weigh_few y.mem y.m u table (2 * s + 1))
+    empty_few = omega (arith, empty_held.counted, weigh_few y.mem y.m u S.table (2 * s + 1))
 
     -- the next one may be taken
-    abbrev pub empty_fannable : k < tail → Fannable n sources drains ceilings table queue s (at u (queue + k)) u tail
+    abbrev pub empty_fannable : k < tail → Fannable S s (at u (S.queue + k)) u tail
     empty_fannable l = let q = empty_queued k l in record {
       listed = y.listed;
       unsure = y.unsure;
@@ -156,49 +155,49 @@ module _ {n : ℕ} {sources drains ceilings : List ℕ} {table queue s end : ℕ
       place = q.0;
       inside = q.1;
       member = sym q.2;
-      strong = ap (cell u table) q.2 ∙ q.3;
+      strong = ap (cell u S.table) q.2 ∙ q.3;
     }
 
     -- no more visits than branches
     pub empty_visits : visits ≤ branches G
-    empty_visits = omega (arith, z.counted, total-part (λ j. degrees G (at u (queue + j))) k tail z.bound, z.moved.sum (degrees G) (y.sum (degrees G)), weigh_bound G y.held.once u table (2 * s + 1))
+    empty_visits = omega (arith, z.counted, total-part (λ j. degrees G (at u (S.queue + j))) k tail z.bound, z.moved.sum (degrees G) (y.sum (degrees G)), weigh_bound G y.held.once u S.table (2 * s + 1))
 
-    module _ (l : k < tail) {x : List ℕ} {t r : ℕ} (f : Fanned G all y.mem y.m table queue s (at u (queue + k)) u tail x t r) where
-      pub empty_next : Emptying G all y.mem y.m table queue s w end x t (visits + r) (k + 1)
+    module _ (l : k < tail) {x : List ℕ} {t r : ℕ} (f : Fanned G all y.mem y.m S.table S.queue s (at u (S.queue + k)) u tail x t r) where
+      pub empty_next : Emptying G all y.mem y.m S.table S.queue s w end x t (visits + r) (k + 1)
       empty_next = record {
         moved = moved_then y.held z.moved f.moved;
         bound = omega (arith, f.moved.more);
         expanded = λ j p. go j p (ℕ_discrete j k);
         counted =
             ap₂ ◌+◌
-            (z.counted ∙ sym (prefix_same (degrees G) u x queue k (λ j p. f.moved.old j (omega arith))))
+            (z.counted ∙ sym (prefix_same (degrees G) u x S.queue k (λ j p. f.moved.old j (omega arith))))
             (f.counted ∙ sym (ap (degrees G) (f.moved.old k l)))
-            ∙ sym (total-next (λ j. degrees G (at x (queue + j))) k);
+            ∙ sym (total-next (λ j. degrees G (at x (S.queue + j))) k);
       }
         where
-          go : (j : ℕ) → j < k + 1 → Dec (j ≡ k) → Expanded G all table s x (at x (queue + j))
+          go : (j : ℕ) → j < k + 1 → Dec (j ≡ k) → Expanded G all S.table s x (at x (S.queue + j))
           go j p (yes e) = rw (e, f.moved.old k l) f.expanded
           go j p (no e) = rw (f.moved.old j (omega arith)) (expanded_moved empty_held f.moved (z.expanded j (omega arith)))
 
-    pub empty_end : tail ≤ k → Emptied G all y.mem y.m table queue s w end u tail visits
+    pub empty_end : tail ≤ k → Emptied G all y.mem y.m S.table S.queue s w end u tail visits
     empty_end l =
-        let e : k ≡ tail = omega (arith, z.bound) in record { moved = z.moved; expanded = λ j p. z.expanded j (omega arith); counted = z.counted ∙ ap (prefix (degrees G) u queue) e }
+        let e : k ≡ tail = omega (arith, z.bound) in record { moved = z.moved; expanded = λ j p. z.expanded j (omega arith); counted = z.counted ∙ ap (prefix (degrees G) u S.queue) e }
 
 -- the queue is full: the level may spread
-module _ {n : ℕ} {sources drains ceilings : List ℕ} {table order m queue : ℕ} {w u : List ℕ} {tail : ℕ} (y : Spreadable n sources drains ceilings table order m queue w)
-    (s : ℕ) (g : Gathered table order m queue (2 * s + 1) w m u tail) where
+module _ {S : Spread} {w u : List ℕ} {tail : ℕ} (y : Spreadable S w)
+    (s : ℕ) (g : Gathered S.table S.order S.members S.queue (2 * s + 1) w S.members u tail) where
   abbrev H : Wires
-  H = wires_by n sources drains ceilings y.listed y.unsure
+  H = wires_of S y.listed y.unsure
 
-  same-weigh : (f : ℕ → ℕ) → weigh f (member_at order w) m w table (2 * s + 1) ≡ weigh f (member_at order w) m u table (2 * s + 1)
+  same-weigh : (f : ℕ → ℕ) → weigh f (member_at S.order w) S.members w S.table (2 * s + 1) ≡ weigh f (member_at S.order w) S.members u S.table (2 * s + 1)
   same-weigh f =
-      total-same (λ i. share f w table (2 * s + 1) (member_at order w i)) (λ i. share f u table (2 * s + 1) (member_at order w i)) m
-      (λ i l. rw (gathered_cell y.ready g (member_at order w i) (y.ready.part.nodes i l)) refl)
+      total-same (λ i. share f w S.table (2 * s + 1) (member_at S.order w i)) (λ i. share f u S.table (2 * s + 1) (member_at S.order w i)) S.members
+      (λ i l. rw (gathered_cell y.ready g (member_at S.order w i) (y.ready.part.nodes i l)) refl)
 
-  pub level_sum : (f : ℕ → ℕ) → prefix f u queue tail ≡ weigh f (member_at order w) m u table (2 * s + 1)
+  pub level_sum : (f : ℕ → ℕ) → prefix f u S.queue tail ≡ weigh f (member_at S.order w) S.members u S.table (2 * s + 1)
   level_sum f = g.sum f ∙ same-weigh f
 
-  pub level_held : Held H (member_at order w) m table queue s u tail
+  pub level_held : Held H (member_at S.order w) S.members S.table S.queue s u tail
   level_held = let R = y.ready in record {
     laid = rw g.long R.laid;
     linked = linked-same (λ j l. g.other j (inr (omega (arith, R.part.fits)))) R.linked;
@@ -211,14 +210,14 @@ module _ {n : ℕ} {sources drains ceilings : List ℕ} {table order m queue : �
     counted = sym (total_ones tail) ∙ level_sum (λ v. 1);
   }
 
-  pub level_queued : (j : ℕ) → j < tail → (i : ℕ) × (i < m) × (at u (queue + j) ≡ member_at order w i) × (cell u table (member_at order w i) ≡ 2 * s + 1)
-  level_queued j l = let q = g.queued j l in (q.0, q.1, q.2, gathered_cell y.ready g (member_at order w q.0) (y.ready.part.nodes q.0 q.1) ∙ q.3)
+  pub level_queued : (j : ℕ) → j < tail → (i : ℕ) × (i < S.members) × (at u (S.queue + j) ≡ member_at S.order w i) × (cell u S.table (member_at S.order w i) ≡ 2 * s + 1)
+  level_queued j l = let q = g.queued j l in (q.0, q.1, q.2, gathered_cell y.ready g (member_at S.order w q.0) (y.ready.part.nodes q.0 q.1) ∙ q.3)
 
-  abbrev pub level_waiting : Waiting n sources drains ceilings table queue s u tail
-  level_waiting = record { listed = y.listed; unsure = y.unsure; mem = member_at order w; m = m; held = level_held; sum = level_sum; queued = level_queued }
+  abbrev pub level_waiting : Waiting S s u tail
+  level_waiting = record { listed = y.listed; unsure = y.unsure; mem = member_at S.order w; m = S.members; held = level_held; sum = level_sum; queued = level_queued }
 
   -- and has spread
-  pub level_end : {all : Bool} {x : List ℕ} {t visits : ℕ} → Emptied H all (member_at order w) m table queue s u tail x t visits → Level H all table order m queue s w x visits
+  pub level_end : {all : Bool} {x : List ℕ} {t visits : ℕ} → Emptied H all (member_at S.order w) S.members S.table S.queue s u tail x t visits → Level H all S.table S.order S.members S.queue s w x visits
   level_end {all} {x} {t} {visits} z = record {
     long = z.moved.long ∙ g.long;
     other = λ j p q. z.moved.other j p q ∙ g.other j q;
@@ -230,12 +229,12 @@ module _ {n : ℕ} {sources drains ceilings : List ℕ} {table order m queue : �
     counted = z.counted ∙ z.moved.sum (degrees H) (level_sum (degrees H));
   }
     where
-      same : (v : ℕ) → v < n → cell u table v ≡ cell w table v
+      same : (v : ℕ) → v < S.wiring.nodes → cell u S.table v ≡ cell w S.table v
       same v l = gathered_cell y.ready g v l
 
-      full_go : (i h : ℕ) → i < m → h < branches H → followed H all h ≡ true → near H h ≡ member_at order w i
-          → (cell u table (near H h) ≡ 2 * s + 1) ⊎ ((j : ℕ) × (tail ≤ j) × (j < t) × (at x (queue + j) ≡ near H h)) → Done H table s x h
+      full_go : (i h : ℕ) → i < S.members → h < branches H → followed H all h ≡ true → near H h ≡ member_at S.order w i
+          → (cell u S.table (near H h) ≡ 2 * s + 1) ⊎ ((j : ℕ) × (tail ≤ j) × (j < t) × (at x (S.queue + j) ≡ near H h)) → Done H S.table s x h
       full_go i h il hl o e (inr q) = z.expanded q.0 q.2 h hl (sym q.3) o
       full_go i h il hl o e (inl q) =
-          let f = g.full i il (sym (ap (cell w table) e) ∙ sym (same (near H h) (y.ready.laid.nears h hl)) ∙ q) in
+          let f = g.full i il (sym (ap (cell w S.table) e) ∙ sym (same (near H h) (y.ready.laid.nears h hl)) ∙ q) in
           z.expanded f.0 (omega (arith, f.1, z.moved.more)) h hl (e ∙ sym f.2 ∙ sym (z.moved.old f.0 f.1)) o

@@ -1,44 +1,25 @@
 -- One visit: a cell is raised, and its node put at the queue's end where it has the strength that spreads. Assumes nothing.
-use Prim.Native.Nat.{ℕ, zero, suc, ◌+◌, ◌*◌, ◌≤◌, ◌<◌}
+use Prim.Native.Nat.{ℕ, ◌+◌, ◌*◌, ◌≤◌, ◌<◌}
 use native.Mathlib.Omega.{arith}
 use native.Mathlib.Nat.{le_refl}
 use native.Mathlib.Decide.{dec_lt}
 use mathlib.Core.Path.{◌≡◌, refl, sym, ap, ap₂, ◌∙◌}
 use mathlib.Core.Logic.{◌⊎◌, inl, inr}
-use mathlib.Core.Bool.{Bool, true, false, cond, ◌||◌, or-true}
-use mathlib.Core.List.{List, [], ◌∷◌}
-use lib.ListN.{length, get_or, set, length-set}
+use mathlib.Core.Bool.{Bool, true, cond}
+use mathlib.Core.List.{List}
+use lib.ListN.{length, set, length-set}
 use lib.Seq.{get_or-set_same, get_or-set_other}
 use lib.Dec.{eqb}
 use borrow.Author.Tests.{eq-eqb, ne_eqb}
 use Rattle.model.specs.Places.{at}
 use Rattle.basis.proofs.Cells.{Stored, here, else, stored}
-use Rattle.branches.specs.Branch.{prefix, Wires, end_of, near, far, branches, followed, amount, ceiling_of}
+use Rattle.branches.specs.Branch.{prefix, Wires, near, far, branches, followed, amount}
 use Rattle.branches.proofs.Ends.{followed-listed}
 use Rattle.branches.proofs.Degrees.{total-same, total_more, total-next, prefix_same}
 use Rattle.strengths.specs.Spread.{cell, Rose, began, over}
-use Rattle.strengths.specs.Level.{share, weigh, Visitable, Visited, still, less, whole, Held, Done, Moved}
+use Rattle.strengths.specs.Level.{share, weigh, Visited, still, less, whole, Held, Done, Moved}
 use Rattle.strengths.proofs.Sums.{weigh_fewer}
 use Rattle.strengths.proofs.Moves.{moved_none}
-
-get_or_in : (l : List ℕ) (t d e : ℕ) → t < length l → get_or l t d ≡ get_or l t e
-get_or_in [] t d e h = absurd (omega arith)
-get_or_in (x ∷ l) zero d e h = refl
-get_or_in (x ∷ l) (suc t) d e h = get_or_in l t d e (omega arith)
-
-get_d_past : (l : List ℕ) (t d : ℕ) → length l ≤ t → get_or l t d ≡ d
-get_d_past [] t d h = refl
-get_d_past (x ∷ l) zero d h = absurd (omega arith)
-get_d_past (x ∷ l) (suc t) d h = get_d_past l t d (omega arith)
-
--- the ceiling of a transistor that has one, and of one that has none
-pub ceiling_in : (l : List ℕ) (t : ℕ) → t < length l → at l t ≡ ceiling_of l t
-unfolding ceiling_of
-ceiling_in l t h = get_or_in l t 0 3 h
-
-pub ceiling_past : (l : List ℕ) (t : ℕ) → length l ≤ t → 3 ≡ ceiling_of l t
-unfolding ceiling_of
-ceiling_past l t h = sym (get_d_past l t 3 h)
 
 -- what a visit does, by the node b that is read and by what is brought, x, as they were computed
 module _ {table queue s b' x' tail : ℕ} {w : List ℕ} (b x : ℕ) (eb : b ≡ b') (ex : x ≡ x') where
@@ -50,21 +31,6 @@ module _ {table queue s b' x' tail : ℕ} {w : List ℕ} (b x : ℕ) (eb : b ≡
 
   pub visit_whole : cell w table b < 2 * x → x ≤ s → s ≤ x → Visited table queue s b' x' w tail (set (set w (table + b) (2 * x + 1)) (queue + tail) b) (tail + 1)
   visit_whole l q r = let e : x ≡ s = omega arith in rw (eb, e) (whole (sym ex ∙ e) (rw (eb, e) at l))
-
--- the queue has room for b, if it is put there
-pub visit_room : {sources drains : List ℕ} {table queue s h : ℕ} {w : List ℕ} {tail : ℕ} (b x : ℕ) → Visitable sources drains table queue s h w tail
-    → b ≡ end_of drains sources h → cell w table b < 2 * x → x ≤ s → (queue + tail < length w) × (queue + tail < 12288)
-visit_room {table = table} {w = w} b x z e p q = z.room (omega (arith, ap (cell w table) e))
-
--- one of two tests passes, or none
-pub first_passes : (a b : Bool) → a ≡ true → (a || b) ≡ true
-first_passes a b e = rw e refl
-
-pub second_passes : (a b : Bool) → b ≡ true → (a || b) ≡ true
-second_passes a b e = rw e (or-true a)
-
-pub none_passes : (a b : Bool) → a ≡ false → b ≡ false → (a || b) ≡ false
-none_passes a b e f = rw (e, f) refl
 
 module _ {G : Wires} {mem : ℕ → ℕ} {m table queue s : ℕ} {w : List ℕ} {tail : ℕ} (H : Held G mem m table queue s w tail) where
   -- the queue has room while a node that takes part is not in it

@@ -1,8 +1,9 @@
 -- One strength that spreads: what a visit to a branch does, what the visits of one node's branches do, and those of all nodes that have it. Assumes nothing.
-use Rattle.std.specs.Prelude.{ℕ, min, ◌+◌, ◌*◌, ◌-◌, ◌/◌, ◌%◌, ◌≤◌, ◌<◌, ◌≡◌, ◌⊎◌, Bool, true, false, cond, ◌||◌, List, length, set, eqb}
+use Rattle.std.specs.Prelude.{ℕ, min, ◌+◌, ◌*◌, ◌-◌, ◌/◌, ◌%◌, ◌≤◌, ◌<◌, ◌≡◌, ◌⊎◌, Bool, true, false, cond, ◌||◌, Option, List, length, set, eqb}
 use Rattle.model.specs.Places.{at}
-use Rattle.branches.specs.Branch.{total, prefix, Wires, end_of, ceiling_of, near, far, branches, followed, amount, degrees, Laid, Linked, wires_by}
-use Rattle.strengths.specs.Spread.{cell, member_at, Rose, Ready}
+use Rattle.branches.specs.Branch.{total, prefix, Wires, end_of, ceiling_of, near, far, branches, followed, amount, degrees, Laid, Linked}
+use Rattle.strengths.specs.declared.Spread.{Spread}
+use Rattle.strengths.specs.Spread.{cell, member_at, Rose, Ready, wires_of}
 
 -- f v where the table has c at v, and 0 elsewhere
 abbrev pub share : (ℕ → ℕ) → List ℕ → ℕ → ℕ → ℕ → ℕ
@@ -13,14 +14,14 @@ abbrev pub weigh : (ℕ → ℕ) → (ℕ → ℕ) → ℕ → List ℕ → ℕ 
 weigh f mem m w table c = total (λ k. share f w table c (mem k)) m
 
 -- branch h may be visited: where it leads has a cell, and the queue has room if that node is put there
-pub record Visitable (sources drains : List ℕ) (table queue s h : ℕ) (w : List ℕ) (tail : ℕ) : Type 0 where
-  pub ends : length drains ≡ length sources
-  pub there : h < 2 * length sources
-  pub few : end_of drains sources h < 4096
-  pub place : table ≤ 4096
-  pub known : table + end_of drains sources h < length w
+pub record Visitable (S : Spread) (s h : ℕ) (w : List ℕ) (tail : ℕ) : Type 0 where
+  pub ends : length S.wiring.drains.now ≡ length S.wiring.sources.now
+  pub there : h < 2 * length S.wiring.sources.now
+  pub few : end_of S.wiring.drains.now S.wiring.sources.now h < 4096
+  pub place : S.table ≤ 4096
+  pub known : S.table + end_of S.wiring.drains.now S.wiring.sources.now h < length w
   pub strength : s ≤ 255
-  pub room : at w (table + end_of drains sources h) < 2 * s → (queue + tail < length w) × (queue + tail < 12288)
+  pub room : at w (S.table + end_of S.wiring.drains.now S.wiring.sources.now h) < 2 * s → (S.queue + tail < length w) × (S.queue + tail < 12288)
 
 -- x is brought to node b: nothing more than is there, or less than s, or s, and then b is put at the queue's end
 pub data Visited (table queue s b x : ℕ) (w : List ℕ) (tail : ℕ) : List ℕ → ℕ → Type 0 where
@@ -29,11 +30,11 @@ pub data Visited (table queue s b x : ℕ) (w : List ℕ) (tail : ℕ) : List �
   whole : x ≡ s → cell w table b < 2 * s → Visited table queue s b x w tail (set (set w (table + b) (2 * s + 1)) (queue + tail) b) (tail + 1)
 
 -- the entry e is followed or passed over
-pub data Followed (sources drains ceilings : List ℕ) (table queue : ℕ) (all : Bool) (s e : ℕ) (w : List ℕ) (tail : ℕ) (w' : List ℕ) (t : ℕ) : Type 0 where
-  passed : (all || eqb (e % 2) 0) ≡ false → w' ≡ w → t ≡ tail → Followed sources drains ceilings table queue all s e w tail w' t
-  went : (all || eqb (e % 2) 0) ≡ true
-      → Visited table queue s (end_of drains sources (e / 2 - 1)) (min s (ceiling_of ceilings ((e / 2 - 1) / 2))) w tail w' t
-      → Followed sources drains ceilings table queue all s e w tail w' t
+pub data Followed (S : Spread) (s e : ℕ) (w : List ℕ) (tail : ℕ) (w' : List ℕ) (t : ℕ) : Type 0 where
+  passed : (S.all || eqb (e % 2) 0) ≡ false → w' ≡ w → t ≡ tail → Followed S s e w tail w' t
+  went : (S.all || eqb (e % 2) 0) ≡ true
+      → Visited S.table S.queue s (end_of S.wiring.drains.now S.wiring.sources.now (e / 2 - 1)) (min s (ceiling_of S.ceilings.now ((e / 2 - 1) / 2))) w tail w' t
+      → Followed S s e w tail w' t
 
 -- v is put at the queue's end if its cell is c
 pub data Noted (table queue c v : ℕ) (w : List ℕ) (tail : ℕ) : List ℕ → ℕ → Type 0 where
@@ -41,7 +42,7 @@ pub data Noted (table queue c v : ℕ) (w : List ℕ) (tail : ℕ) : List ℕ �
   noted : cell w table v ≡ c → Noted table queue c v w tail (set w (queue + tail) v) (tail + 1)
 
 -- the queue holds those of the first k nodes that take part whose cell is c
-pub record Gathered (table order m queue c : ℕ) (w : List ℕ) (k : ℕ) (w' : List ℕ) (tail : ℕ) : Type 0 where
+pub record Gathered (table : ℕ) (order : Option ℕ) (m queue c : ℕ) (w : List ℕ) (k : ℕ) (w' : List ℕ) (tail : ℕ) : Type 0 where
   pub long : length w' ≡ length w
   pub other : (j : ℕ) → (j < queue) ⊎ (queue + m ≤ j) → at w' j ≡ at w j
   pub sum : (f : ℕ → ℕ) → prefix f w' queue tail ≡ weigh f (member_at order w) k w table c
@@ -98,7 +99,7 @@ module _ (G : Wires) where
       pub counted : visits ≡ prefix (degrees G) w' queue t
 
     -- the strength s has spread from w to w'
-    pub record Level (table order m queue s : ℕ) (w w' : List ℕ) (visits : ℕ) : Type 0 where
+    pub record Level (table : ℕ) (order : Option ℕ) (m queue s : ℕ) (w w' : List ℕ) (visits : ℕ) : Type 0 where
       pub long : length w' ≡ length w
       pub other : (j : ℕ) → (j < table) ⊎ (table + G.size ≤ j) → (j < queue) ⊎ (queue + m ≤ j) → at w' j ≡ at w j
       pub apart : (v : ℕ) → v < G.size → ((i : ℕ) → i < m → member_at order w i ≡ v → ⊥) → cell w' table v ≡ cell w table v
@@ -110,40 +111,40 @@ module _ (G : Wires) where
 
 -- lists and members that fit the work area w: with a node from which the strength s spreads, with a queue of such nodes, with none of these; and what
 -- then holds, whichever lists and members these are
-module _ (n : ℕ) (sources drains ceilings : List ℕ) where
-  pub record Fannable (table queue s a : ℕ) (w : List ℕ) (tail : ℕ) : Type 0 where
+module _ (S : Spread) where
+  pub record Fannable (s a : ℕ) (w : List ℕ) (tail : ℕ) : Type 0 where
     pub listed : ℕ → Bool
     pub unsure : ℕ → Bool
     pub mem : ℕ → ℕ
     pub m : ℕ
-    pub held : Held (wires_by n sources drains ceilings listed unsure) mem m table queue s w tail
+    pub held : Held (wires_of S listed unsure) mem m S.table S.queue s w tail
     pub place : ℕ
     pub inside : place < m
     pub member : mem place ≡ a
-    pub strong : cell w table a ≡ 2 * s + 1
+    pub strong : cell w S.table a ≡ 2 * s + 1
 
-  abbrev pub FannedAny : Bool → (table queue s a : ℕ) (w : List ℕ) (end : ℕ) (w' : List ℕ) (tail visits : ℕ) → Type 0
-  FannedAny all table queue s a w end w' tail visits =
-      (z : Fannable table queue s a w end) → Fanned (wires_by n sources drains ceilings z.listed z.unsure) all z.mem z.m table queue s a w end w' tail visits
+  abbrev pub FannedAny : (s a : ℕ) (w : List ℕ) (end : ℕ) (w' : List ℕ) (tail visits : ℕ) → Type 0
+  FannedAny s a w end w' tail visits =
+      (z : Fannable s a w end) → Fanned (wires_of S z.listed z.unsure) S.all z.mem z.m S.table S.queue s a w end w' tail visits
 
-  pub record Waiting (table queue s : ℕ) (w : List ℕ) (tail : ℕ) : Type 0 where
+  pub record Waiting (s : ℕ) (w : List ℕ) (tail : ℕ) : Type 0 where
     pub listed : ℕ → Bool
     pub unsure : ℕ → Bool
     pub mem : ℕ → ℕ
     pub m : ℕ
-    pub held : Held (wires_by n sources drains ceilings listed unsure) mem m table queue s w tail
-    pub sum : (f : ℕ → ℕ) → prefix f w queue tail ≡ weigh f mem m w table (2 * s + 1)
-    pub queued : (j : ℕ) → j < tail → (i : ℕ) × (i < m) × (at w (queue + j) ≡ mem i) × (cell w table (mem i) ≡ 2 * s + 1)
+    pub held : Held (wires_of S listed unsure) mem m S.table S.queue s w tail
+    pub sum : (f : ℕ → ℕ) → prefix f w S.queue tail ≡ weigh f mem m w S.table (2 * s + 1)
+    pub queued : (j : ℕ) → j < tail → (i : ℕ) × (i < m) × (at w (S.queue + j) ≡ mem i) × (cell w S.table (mem i) ≡ 2 * s + 1)
 
-  abbrev pub EmptiedAny : Bool → (table queue s : ℕ) (w : List ℕ) (end : ℕ) (w' : List ℕ) (tail visits : ℕ) → Type 0
-  EmptiedAny all table queue s w end w' tail visits =
-      (z : Waiting table queue s w end) → Emptied (wires_by n sources drains ceilings z.listed z.unsure) all z.mem z.m table queue s w end w' tail visits
+  abbrev pub EmptiedAny : (s : ℕ) (w : List ℕ) (end : ℕ) (w' : List ℕ) (tail visits : ℕ) → Type 0
+  EmptiedAny s w end w' tail visits =
+      (z : Waiting s w end) → Emptied (wires_of S z.listed z.unsure) S.all z.mem z.m S.table S.queue s w end w' tail visits
 
-  pub record Spreadable (table order m queue : ℕ) (w : List ℕ) : Type 0 where
+  pub record Spreadable (w : List ℕ) : Type 0 where
     pub listed : ℕ → Bool
     pub unsure : ℕ → Bool
-    pub ready : Ready (wires_by n sources drains ceilings listed unsure) table order m queue w
+    pub ready : Ready (wires_of S listed unsure) S.table S.order S.members S.queue w
 
-  abbrev pub LevelAny : Bool → (table order m queue s : ℕ) (w w' : List ℕ) (visits : ℕ) → Type 0
-  LevelAny all table order m queue s w w' visits =
-      (z : Spreadable table order m queue w) → Level (wires_by n sources drains ceilings z.listed z.unsure) all table order m queue s w w' visits
+  abbrev pub LevelAny : (s : ℕ) (w w' : List ℕ) (visits : ℕ) → Type 0
+  LevelAny s w w' visits =
+      (z : Spreadable w) → Level (wires_of S z.listed z.unsure) S.all S.table S.order S.members S.queue s w w' visits

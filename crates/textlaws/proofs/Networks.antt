@@ -10,11 +10,10 @@ use lib.ListN.{length, set, length-set}
 use Rattle.model.specs.Bounds.{most_nodes, most_transistors, highest_kind, highest_type}
 use Rattle.model.specs.Places.{any, at}
 use Rattle.model.specs.Net.{Net, net_of, alone, nodes, transistors}
-use Rattle.model.specs.Rules.{given, wire_tests, check_sizes, check_rules}
+use Rattle.model.specs.Rules.{Verdict, given, wire_tests, check_sizes, check_rules}
 use Rattle.model.specs.Entries.{check_answer}
 use Rattle.model.specs.Demands.{Clean}
 use Rattle.model.specs.declared.Answer.TheVariants.{Done}
-use Rattle.model.specs.declared.Verdict.{Verdict}
 use Rattle.laws.proofs.Judged.{judge_clean}
 use Rattle.basis.proofs.Cells.{Stored, here, else, stored}
 use Rattle.text.specs.Netlist.{type_number, pulls, joined}

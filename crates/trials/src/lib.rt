@@ -1,10 +1,13 @@
-// An entry of the library called by its name, with what it takes of the tables: so a program lends its tables in one place.
+// An entry of the library called by its name, with what it takes of all that is lent: so a program lends its tables in one place.
 #![tactic(auto)]
 
-use model::Answer;
-use std::io;
+ghost use Rattle.std.specs.Prelude.{Some};
+ghost use Rattle.trials.specs.Name.{name};
 
-// The library's entries.
+use model::{Answer, ChangeList, Network};
+use std::fmt;
+
+// The library's entries: a program names an entry and calls it, so an entry is a value that does both, and no closure.
 #[derive(Clone, Copy)]
 pub enum Entry {
     Check,
@@ -14,40 +17,37 @@ pub enum Entry {
     Ternary,
 }
 
-// Calls an entry with those of the tables that it takes.
-pub fn call(
-    entry: Entry,
-    kinds: &[u8],
-    states: &mut [u8],
-    types: &[u8],
-    gates: &[u16],
-    sources: &[u16],
-    drains: &[u16],
-    nodes: &[u16],
-    news: &[u8],
-    limit: u32,
-    work: &mut [u16],
-) -> Answer {
-    match entry {
-        Entry::Check => twistdory::check(kinds, types, gates, sources, drains),
-        Entry::Reset => twistdory::reset(kinds, states),
-        Entry::Step => twistdory::step(kinds, states, types, gates, sources, drains, work),
-        Entry::Unit => twistdory::unit_run(
-            kinds, states, types, gates, sources, drains, nodes, news, limit, work,
-        ),
-        Entry::Ternary => twistdory::ternary_run(
-            kinds, states, types, gates, sources, drains, nodes, news, work,
-        ),
+impl Entry {
+    // Calls the entry with what it takes of what is lent.
+    pub fn call(
+        self,
+        net: &Network,
+        states: &mut [u8],
+        changes: &ChangeList,
+        limit: u32,
+        work: &mut [u16],
+    ) -> Answer {
+        match self {
+            Entry::Check => twistdory::check(net),
+            Entry::Reset => twistdory::reset(net.kinds, states),
+            Entry::Step => twistdory::step(net, states, work),
+            Entry::Unit => twistdory::unit_run(net, states, changes, limit, work),
+            Entry::Ternary => twistdory::ternary_run(net, states, changes, work),
+        }
     }
 }
 
-// Prints an entry's name.
-pub fn show_entry(rt: &impl Print, entry: Entry) -> io::Result<()> {
-    match entry {
-        Entry::Check => print!(rt; "check"),
-        Entry::Reset => print!(rt; "reset"),
-        Entry::Step => print!(rt; "step"),
-        Entry::Unit => print!(rt; "unit"),
-        Entry::Ternary => print!(rt; "ternary"),
+// An entry is shown by its name.
+impl fmt::Display for Entry {
+    ghost output = { λ entry. Some (name entry) };
+
+    fn fmt<W: fmt::Write>(&self, f: &mut fmt::Formatter<W>) -> fmt::Result {
+        match self {
+            Entry::Check => write!(f, "check"),
+            Entry::Reset => write!(f, "reset"),
+            Entry::Step => write!(f, "step"),
+            Entry::Unit => write!(f, "unit"),
+            Entry::Ternary => write!(f, "ternary"),
+        }
     }
 }

@@ -22,7 +22,7 @@ use Rattle.twistdory.specs.contracts.ternary_run
 use Rattle.twistdory.proofs.ternary_run.Kinds as ternary-kinds
 use Rattle.twistdory.proofs.ternary_run.Reads as ternary-reads
 
-pub check_determined : (κs : Lfts 5) (lent : ArgsD check.signature κs) (a b : ResD check.signature κs) (x y : AtExit (ended_of 5 check-kinds.ps check-kinds.r) κs)
+pub check_determined : (κs : Lfts 2) (lent : ArgsD check.signature κs) (a b : ResD check.signature κs) (x y : AtExit (ended_of 2 check-kinds.ps check-kinds.r) κs)
     → check-reads.Post κs lent a x → check-reads.Post κs lent b y → a ≡ b
 check_determined κs lent a b x y p q = p ∙ sym q
 
@@ -30,14 +30,14 @@ pub reset_determined : (κs : Lfts 2) (lent : ArgsD reset.signature κs) (a b : 
     → reset-reads.Post κs lent a x → reset-reads.Post κs lent b y → (a ≡ b) × (x.1.0.now ≡ y.1.0.now)
 reset_determined κs lent a b x y p q = let r = leaves_one p q in (r.0, r.1)
 
-pub step_determined : (κs : Lfts 7) (lent : ArgsD step.signature κs) (a b : ResD step.signature κs) (x y : AtExit (ended_of 7 step-kinds.ps step-kinds.r) κs)
-    → step-reads.Post κs lent a x → step-reads.Post κs lent b y → (a ≡ b) × (x.1.0.now ≡ y.1.0.now) × (x.1.1.1.1.1.1.0.now ≡ y.1.1.1.1.1.1.0.now)
+pub step_determined : (κs : Lfts 4) (lent : ArgsD step.signature κs) (a b : ResD step.signature κs) (x y : AtExit (ended_of 4 step-kinds.ps step-kinds.r) κs)
+    → step-reads.Post κs lent a x → step-reads.Post κs lent b y → (a ≡ b) × (x.1.0.now ≡ y.1.0.now) × (x.1.1.0.now ≡ y.1.1.0.now)
 step_determined κs lent a b x y p q = leaves_one p q
 
-pub unit_determined : (κs : Lfts 9) (lent : ArgsD unit_run.signature κs) (a b : ResD unit_run.signature κs) (x y : AtExit (ended_of 9 unit-kinds.ps unit-kinds.r) κs)
-    → unit-reads.Post κs lent a x → unit-reads.Post κs lent b y → (a ≡ b) × (x.1.0.now ≡ y.1.0.now) × (x.1.1.1.1.1.1.1.1.1.0.now ≡ y.1.1.1.1.1.1.1.1.1.0.now)
+pub unit_determined : (κs : Lfts 6) (lent : ArgsD unit_run.signature κs) (a b : ResD unit_run.signature κs) (x y : AtExit (ended_of 6 unit-kinds.ps unit-kinds.r) κs)
+    → unit-reads.Post κs lent a x → unit-reads.Post κs lent b y → (a ≡ b) × (x.1.0.now ≡ y.1.0.now) × (x.1.1.1.1.0.now ≡ y.1.1.1.1.0.now)
 unit_determined κs lent a b x y p q = leaves_one p q
 
-pub ternary_determined : (κs : Lfts 9) (lent : ArgsD ternary_run.signature κs) (a b : ResD ternary_run.signature κs) (x y : AtExit (ended_of 9 ternary-kinds.ps ternary-kinds.r) κs)
-    → ternary-reads.Post κs lent a x → ternary-reads.Post κs lent b y → (a ≡ b) × (x.1.0.now ≡ y.1.0.now) × (x.1.1.1.1.1.1.1.1.0.now ≡ y.1.1.1.1.1.1.1.1.0.now)
+pub ternary_determined : (κs : Lfts 6) (lent : ArgsD ternary_run.signature κs) (a b : ResD ternary_run.signature κs) (x y : AtExit (ended_of 6 ternary-kinds.ps ternary-kinds.r) κs)
+    → ternary-reads.Post κs lent a x → ternary-reads.Post κs lent b y → (a ≡ b) × (x.1.0.now ≡ y.1.0.now) × (x.1.1.1.0.now ≡ y.1.1.1.0.now)
 ternary_determined κs lent a b x y p q = leaves_one p q

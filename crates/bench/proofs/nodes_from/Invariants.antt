@@ -1,13 +1,8 @@
--- `nodes_from` ends, and writes within the table. Assumes nothing.
-use Prim.Native.Nat.{◌≤◌, ◌-◌}
-use mathlib.Core.Path.{◌≡◌}
-use lib.ListN.{length}
+-- The places passed have their nodes. Assumes nothing.
+use Rattle.std.specs.Prelude.{ℕ, slice_index_or, ◌≡◌, ◌<◌, ◌+◌, ◌%◌}
+use Rattle.model.specs.Bounds.{most_nodes}
 use Rattle.bench.proofs.nodes_from.Given as goal
 
-abbrev pub invariant-loop-i : goal.invariant-loop-i
-invariant-loop-i l =
-    (l.i ≤ 8193) × (length l.table ≡ 8193)
-
-abbrev pub decreases-loop-i : goal.decreases-loop-i
-decreases-loop-i l =
-    8193 - l.i
+abbrev pub invariant-loop-place : goal.invariant-loop-place
+invariant-loop-place l =
+    (k d : ℕ) → k < l.place → slice_index_or l.node-items k d ≡ (l.first + k) % most_nodes

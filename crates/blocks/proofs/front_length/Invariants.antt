@@ -1,5 +1,5 @@
 -- `front_length` meets its contract: the wires and values so far are counted. Assumes nothing.
-use Prim.Native.Nat.{◌-◌, ◌+◌, ◌≤◌}
+use Prim.Native.Nat.{◌+◌}
 use mathlib.Core.Path.{◌≡◌}
 use lib.ListN.{length}
 use Rattle.model.specs.Places.{at}
@@ -8,8 +8,4 @@ use Rattle.blocks.proofs.front_length.Given as goal
 
 abbrev pub invariant-loop-node : goal.invariant-loop-node
 invariant-loop-node l =
-    (l.node ≤ length l.states) × (l.size ≡ 97 + length (each l.node wire_line) + length (each l.node (λ v. value_line v (at l.states v))))
-
-abbrev pub decreases-loop-node : goal.decreases-loop-node
-decreases-loop-node l =
-    length l.states - l.node
+    l.size ≡ 97 + length (each l.node wire_line) + length (each l.node (λ v. value_line v (at l.states v)))

@@ -1,20 +1,24 @@
--- `cells::differing` meets its contract: it has counted the nodes passed. Assumes nothing.
-use native.Mathlib.Nat.{le_antisymm}
-use native.Mathlib.Omega.{arith}
-use Rattle.basis.proofs.Altered.{one_few, count_few, count_more, count_end}
+-- `cells::differing` meets its contract: each pair of states that differ adds one. Assumes nothing.
+use Rattle.std.proofs.Common.{◌∙◌, of_calls, rules, tests, arith}
+use Rattle.std.proofs.lemmas.Iterator.{YieldsList-from_slice, YieldsList-from_zip, YieldsList-from_map}
+use Rattle.std.proofs.lemmas.Iterator.Consumers.{sum_by_from_yields_List, fits_by_from_yields_list}
+use Rattle.std.specs.List.{zip}
+use Rattle.basis.proofs.Altered.{one_if_differs, sum_of_pairs, sum_few}
 use Rattle.cells.proofs.differing.Goals as goal
 
-pub overflow_add-k : goal.overflow_add-k
-overflow_add-k c =
-    let start = c.before in
-    let turn = c.loop-node in
-    omega (arith, one_few start.args.states.now start.args.work.now turn.node c.differs-k.result c.differs-k.ensures, count_few start.args.states.now start.args.work.now turn.node turn.k turn.invariant.1)
-
-pub loop-node-preserved : goal.loop-node-preserved
-loop-node-preserved c =
-    let start = c.before in
-    let turn = c.loop-node in
-    (omega arith, count_more start.args.states.now start.args.work.now _ _ _ turn.invariant.1 c.differs-k.ensures)
+pub sum-requires : goal.sum-requires
+sum-requires c =
+    let few = sum_few c.args.states.now c.args.work.now c.requires.0 in
+    record {
+      can = search of_calls;
+      finite = search of_calls;
+      fits = fits_by_from_yields_list one_if_differs (zip c.args.states.now c.args.work.now) c.map.result _
+          (YieldsList-from_map _ one_if_differs (YieldsList-from_zip (YieldsList-from_slice c.args.states.now cc) (YieldsList-from_slice c.args.work.now cc)) c.map.ensures.closure (λ x r q k. search (rules, tests)))
+          (omega arith);
+    }
 
 pub returns : goal.returns
-returns c = count_end _ _ _ _ (le_antisymm c.loop-node.invariant.0 c.loop-node-test.false) c.loop-node.invariant.1
+returns c =
+    let summed = sum_by_from_yields_List one_if_differs _ c.map.result c.sum.result c.sum.ensures.ran
+    (YieldsList-from_map _ one_if_differs (YieldsList-from_zip (YieldsList-from_slice c.args.states.now cc) (YieldsList-from_slice c.args.work.now cc)) c.map.ensures.closure (λ x r q k. search (rules, tests))) in
+    summed ∙ sum_of_pairs _ _ c.requires.0

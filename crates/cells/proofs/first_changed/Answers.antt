@@ -1,13 +1,14 @@
--- `cells::first_changed` meets its contract: no node passed is changed. Assumes nothing.
-use Rattle.basis.proofs.Altered.{first_here, first_nowhere}
+-- `cells::first_changed` meets its contract: the first pair of states that differ. Assumes nothing.
+use Rattle.std.proofs.Common.{ap, ◌∙◌, length, take, rules, tests}
+use Rattle.std.specs.Option.{unwrap_or}
+use Rattle.std.proofs.lemmas.Iterator.{YieldsList-from_slice, YieldsList-from_zip}
+use Rattle.std.proofs.lemmas.Iterator.Search.{position_from_yields_List}
+use Rattle.basis.proofs.Altered.{differs, first_of_pairs}
 use Rattle.cells.proofs.first_changed.Goals as goal
-
-pub returns-then-states-node : goal.returns-then-states-node
-returns-then-states-node c =
-    let a = c.args in
-    first_here a.states.now a.work.now _ c.loop-node-test.true c.if-states-node.true c.loop-node.invariant.1
 
 pub returns : goal.returns
 returns c =
-    let a = c.args in
-    first_nowhere a.states.now a.work.now _ c.loop-node.invariant.0 c.loop-node-test.false c.loop-node.invariant.1
+    let s = c.args.states.now in
+    let pairs = YieldsList-from_zip (YieldsList-from_slice s cc) (YieldsList-from_slice (take (length s) c.args.work.now) cc) in
+    let found = position_from_yields_List differs c.position-first.new.self _ c.position-first.result c.position-first.ensures.ran pairs (λ x b q k. search (rules, tests)) in
+    c.unwrap_or.ensures ∙ ap (λ r. unwrap_or r (length s)) found ∙ first_of_pairs s c.args.work.now c.requires.0

@@ -1,12 +1,10 @@
 -- `joined::fan` meets its contract: the entries passed were followed, and the next is lower. Assumes nothing.
-use mathlib.Core.Path.{◌≡◌}
-use lib.ListN.{length}
 use Rattle.joined.specs.Floods.{Chain}
 use Rattle.joined.proofs.fan.Given as goal
 
 abbrev pub invariant-loop-e : goal.invariant-loop-e
 invariant-loop-e l =
-    (length l.work ≡ length l.initial.work) × Chain l.n l.sources l.drains l.a l.initial.work l.initial.found l.work l.found l.e
+    Chain l.wiring l.a l.initial.work l.initial.found l.work l.found l.e
 
 abbrev pub decreases-loop-e : goal.decreases-loop-e
 decreases-loop-e l =

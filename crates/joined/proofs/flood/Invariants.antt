@@ -1,14 +1,12 @@
 -- `joined::flood` meets its contract: the nodes passed in the queue are done with. Assumes nothing.
 use Prim.Native.Nat.{◌-◌}
-use mathlib.Core.Path.{◌≡◌}
-use lib.ListN.{length}
 use Rattle.joined.specs.Floods.{Emptied}
 use Rattle.joined.proofs.flood.Given as goal
 
 abbrev pub invariant-loop-k : goal.invariant-loop-k
 invariant-loop-k l =
-    (length l.work ≡ length l.initial.work) × Emptied l.n l.sources l.drains l.initial.k l.initial.work l.initial.found l.work l.found l.k
+    Emptied l.wiring l.initial.k l.initial.work l.initial.found l.work l.found l.k
 
 abbrev pub decreases-loop-k : goal.decreases-loop-k
 decreases-loop-k l =
-    l.n - l.k
+    l.wiring.nodes - l.k

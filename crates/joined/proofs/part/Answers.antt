@@ -21,7 +21,7 @@ returns-then-found c =
     let untaken = c.if-m-lt-TELLING.false in
     quiet untaken c.flood-found.ensures c.begin_all.ensures c.if-found.true
 
-pub returns : goal.returns
-returns c =
+pub returns-else-found : goal.returns-else-found
+returns-else-found c =
     let untaken = c.if-m-lt-TELLING.false in
     keeps untaken c.flood-found.ensures c.begin_all.ensures

@@ -1,12 +1,12 @@
 -- `chain_of` meets its contract: what is left to mix is what is left of the definition. Assumes nothing.
 use mathlib.Core.Path.{sym, ◌∙◌}
-use borrow.Author.Rules.{rules}
-use Rattle.names.proofs.Comparing.{mixed-next, mixed_end}
+use Rattle.std.proofs.Common.{rules}
+use Rattle.names.proofs.Mixing.{mixed-next, mixed_end}
 use Rattle.names.proofs.chain_of.Goals as goal
 
-pub loop-k-preserved : goal.loop-k-preserved
-loop-k-preserved c =
-    (search rules, sym (mixed-next _ _ _ c.requires _ _ c.loop-k-test.true) ∙ c.loop-k.invariant.1)
+pub loop-byte-preserved : goal.loop-byte-preserved
+loop-byte-preserved c =
+    (search rules, rw c.from.ensures (sym (mixed-next _ _ _ c.loop-byte-test.true) ∙ c.loop-byte.invariant.1))
 
-pub returns : goal.returns
-returns c = (sym (mixed_end _ _ _ c.requires _ _ c.loop-k-test.false) ∙ c.loop-k.invariant.1, c.loop-k.invariant.0)
+pub returns-clause-same : goal.returns-clause-same
+returns-clause-same c = sym (mixed_end _ _ _ c.loop-byte-test.false) ∙ c.loop-byte.invariant.1

@@ -1,9 +1,12 @@
--- `next_stop` meets its contract: no byte that was passed over passes the test. Assumes nothing.
-use Rattle.scanner.proofs.Ends.{passed_stop, passed_end}
+-- `next_stop` meets its contract: it stops at the first byte that passes the test. Assumes nothing.
+use Rattle.std.proofs.Common.{rules, arith}
+use Rattle.textlaws.proofs.Scanning.{next_is}
 use Rattle.scanner.proofs.next_stop.Goals as goal
 
-pub returns-then-stops_at-clause-found : goal.returns-then-stops_at-clause-found
-returns-then-stops_at-clause-found c = passed_stop _ _ _ _ c.loop-i.invariant c.loop-i-test.true _ c.stops_at.ensures c.if-stops_at.true
+pub returns-then-stops-clause-found : goal.returns-then-stops-clause-found
+returns-then-stops-clause-found g c =
+    next_is _ _ _ _ (omega arith) _ (record { from = omega arith; below = omega arith; none = c.loop-i.invariant.2; found = λ m. search rules })
 
 pub returns-clause-found : goal.returns-clause-found
-returns-clause-found c = passed_end _ _ _ _ c.loop-i.invariant c.loop-i-test.false
+returns-clause-found g c =
+    next_is _ _ _ _ (omega arith) _ (record { from = omega arith; below = omega arith; none = λ k a b. c.loop-i.invariant.2 k a (omega arith); found = λ m. absurd (omega arith) })

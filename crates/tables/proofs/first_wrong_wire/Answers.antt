@@ -1,20 +1,21 @@
--- `first_wrong_wire` meets its contract: no transistor passed is wrong. Assumes nothing.
-use mathlib.Core.Path.{sym, ◌∙◌}
+-- `first_wrong_wire` meets its contract: `find` tests each transistor. Assumes nothing.
 use lib.ListN.{length}
-use Rattle.model.specs.Net.{net_of}
-use Rattle.model.specs.Net.{net_of}
-use Rattle.basis.proofs.Finding.{first-at, first_none}
-use Rattle.tables.proofs.first_wrong_wire.Invariants.{Wrong}
+use native.Mathlib.Omega.{arith}
+use mathlib.Core.Bool.{Bool}
+use Prim.Native.Nat.{ℕ}
+use Rattle.std.proofs.Common.{refl, rules, tests, ◌∙◌}
+use Rattle.std.proofs.lemmas.Iterator.{YieldsList-from_range}
+use Rattle.std.proofs.lemmas.Iterator.Search.{find_from_yields_List}
+use Rattle.model.specs.Places.{any}
+use Rattle.model.specs.Lent.{lent}
+use Rattle.model.specs.Rules.{wire_tests}
+use Rattle.tables.proofs.Searching.{place_from_find, as_found}
 use Rattle.tables.proofs.first_wrong_wire.Goals as goal
-
-pub returns-then-wrong_wire : goal.returns-then-wrong_wire
-returns-then-wrong_wire c =
-    let a = c.args in
-    let net = net_of a.kinds.now a.types.now a.gates.now a.sources.now a.drains.now in
-    first-at (length a.types.now) (Wrong net) _ c.loop-t-test.true (sym c.wrong_wire.ensures ∙ c.if-wrong_wire.true) c.loop-t.invariant.1
 
 pub returns : goal.returns
 returns c =
-    let a = c.args in
-    let net = net_of a.kinds.now a.types.now a.gates.now a.sources.now a.drains.now in
-    first_none (length a.types.now) (Wrong net) _ c.loop-t.invariant.0 c.loop-t-test.false c.loop-t.invariant.1
+    let net = lent c.args.net.now in
+    let wrong : ℕ → Bool = λ t. any (wire_tests net t) in
+    as_found c.find.result
+    ∙ find_from_yields_List wrong _ _ _ c.find.ensures.ran (YieldsList-from_range 0 _ _ refl (omega arith)) (λ x b q k. search (rules, tests))
+    ∙ place_from_find wrong (length net.types)

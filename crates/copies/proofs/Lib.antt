@@ -1,2 +1,0 @@
--- A table copied entry by entry, and a whole one.
-pub mod Copying

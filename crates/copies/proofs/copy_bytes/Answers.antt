@@ -1,6 +1,0 @@
--- `copy_bytes` meets its contract: the front is copied, the rest is as it came. Assumes nothing.
-use Rattle.copies.proofs.Copying.{copied_all}
-use Rattle.copies.proofs.copy_bytes.Goals as goal
-
-pub returns : goal.returns
-returns c = copied_all _ _ _ _ _ c.loop-i.invariant c.requires c.loop-i-test.false

@@ -1,2 +1,0 @@
--- In which terms the contracts of handing over speak.
-pub mod Handing

@@ -1,2 +1,0 @@
--- What the judges' proofs cite.
-mod Lengths

@@ -1,2 +1,0 @@
--- In which terms the entries' inner contracts speak.
-pub mod AtLarge

@@ -1,0 +1,2 @@
+-- What the results of runs tell.
+pub mod Results

@@ -1,2 +1,0 @@
--- In which terms the scan's contracts speak.
-pub mod Stops

@@ -1,0 +1,2 @@
+-- What the proofs of the searches cite.
+pub mod Searching

@@ -1,0 +1,2 @@
+-- What a search through a table answers.
+pub mod Place
