@@ -36,7 +36,9 @@ pub fn first_wrong_wire(net: &Network) -> Option<usize>
     requires { Level (lent net.now) }
     ensures { let net = lent net.now in result ≡ place_of (length net.types) (λ t. any (wire_tests net t)) }
 {
-    (0..net.types.len()).find(|t| wrong_wire(net, *t))
+    // A copy, so that where the tables begin is read once, and not for every transistor.
+    let net = *net;
+    (0..net.types.len()).find(|t| wrong_wire(&net, *t))
 }
 
 // Whether an entry before e names the same node.
