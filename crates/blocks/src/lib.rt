@@ -1,4 +1,5 @@
 // The lines and blocks of a dump, the header, time 0 and one step: how long they are, and written to an output that has room for them.
+// States and the cells of their next states are lent apart, and stay two.
 #![tactic(auto, using(crate::proofs::Lines::lengths))]
 
 ghost use Rattle.std.specs.Prelude.{◌+◌, ◌≤◌, ◌<◌, ◌≡◌, not, cond, [], length, eqb};

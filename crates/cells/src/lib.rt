@@ -1,5 +1,6 @@
 // Single tables, written or compared place by place: work cells at 0, states as reset leaves them, changes entered, an evaluated step taking
 // effect. Where a table is written from another, by place: of an `iter_mut` that is zipped std does not say what it leaves.
+// States and the cells of their next states are lent apart, and stay two.
 #![tactic(auto)]
 
 ghost use Rattle.std.specs.Prelude.{◌+◌, ◌≤◌, ◌≡◌, not, cond, length, eqb};

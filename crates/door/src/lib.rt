@@ -149,6 +149,7 @@ pub extern "C" fn twistdory_node_name(text: &[u8], number: u32, part: &mut [u32;
     ensures { let name = name_part text.now number in
         part.new ≡ name.start ∷ name.size ∷ [] }
 {
+    // By `as`: std has no `From` of a u32 for usize.
     let name = reader::node_span(text, number as usize);
     *part = [name.start as u32, name.size as u32];
 }

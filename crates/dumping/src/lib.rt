@@ -39,6 +39,7 @@ fn steps_fit(net: &Network, states: &mut [u8], limit: u32, work: &mut [u16], roo
         if place == states.len() as u32 || count == limit {
             return true;
         }
+        // By `as`, here and below: std has no `From` of a u32 for usize.
         let block = blocks::step_length(count as usize + 1, states, work);
         if free < block {
             return false;

@@ -1,4 +1,5 @@
 // The nodes are parted into the sets that sure branches join: each set is flooded once, and both tables begin with what its nodes tell of sources together.
+// What touches cells alone takes the work area and the number of nodes, and no wiring.
 #![tactic(auto)]
 
 ghost use Rattle.std.specs.Prelude.{◌≡◌, ◌&&◌, ◌*◌, ◌≤◌, ◌<◌, length, eqb};

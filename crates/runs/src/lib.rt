@@ -1,6 +1,7 @@
 // Loops over steps: changes entered, steps until the state is settled, and from these the unit run and the ternary run, on tables
 // that were checked. `Checked` is of the network, the states and the work area together. It stands in the contracts and in no type: what is called
-// borrows states and work apart, one to read and one to write, so that a type of the three would be taken apart at every call.
+// borrows states and work apart, one to read and one to write, so that a type of the three would be taken apart at every call. A limit is the number that
+// a caller lends, with its bound in the clauses: the judges have tested it, and no type is between.
 #![tactic(auto)]
 
 ghost use Rattle.std.specs.Prelude.{◌≡◌, ◌≤◌, length};
