@@ -5,9 +5,18 @@
 ghost use Rattle.std.specs.Prelude.{ℕ, Bool, ◌+◌, ◌≤◌, ◌≡◌, ◌&&◌, ◌||◌, [], ◌∷◌, length, eqb, leb};
 ghost use Rattle.text.specs.Bytes.{past, part, next};
 ghost use Rattle.text.specs.Lines.{blank, line_end, field, opening, names_from, fit, all_fit, line_by, line_at};
+ghost use Rattle.scanner.specs.Stops.{stops};
 
 use model::MOST_NAME;
 use text::{DeviceType, Line, Names, Opening, Span};
+
+// Where a scan stops: at a line feed, at a blank or a line feed, at a byte that is no blank.
+#[derive(Clone, Copy)]
+pub enum Stop {
+    Feed,
+    Gap,
+    Word,
+}
 
 fn is_blank(b: u8) -> bool
     ensures { result ≡ blank b }
@@ -16,23 +25,36 @@ fn is_blank(b: u8) -> bool
 }
 
 // The first place from there on whose byte passes the test, and the text's end where there is none.
-pub fn next_stop<F: Fn(u8) -> bool>(text: &[u8], from: usize, stops: F) -> usize
+pub fn next_where<F: Fn(u8) -> bool>(text: &[u8], from: usize, passes: F) -> usize
     ghost test: { ℕ → Bool }
     requires here { from ≤ length text.now }
-    requires callable { F.IsAlwaysCallable stops }
-    requires tests { (b : ℕ) (r : Bool) → F.post stops b r → r ≡ test b }
+    requires callable { F.IsAlwaysCallable passes }
+    requires tests { (b : ℕ) (r : Bool) → F.post passes b r → r ≡ test b }
     ensures found { result ≡ next test text.now from (length text.now) }
     ensures within { (from ≤ result) × (result ≤ length text.now) }
 {
     // By hand: with `position`, or a `for` over the places, a text of devices takes a twentieth longer to read.
     let mut i = from;
     while i < text.len() {
-        if stops(text[i]) {
+        if passes(text[i]) {
             return i;
         }
         i += 1;
     }
     i
+}
+
+// The first place from there on at which the scan stops, and the text's end where there is none.
+pub fn next_stop(text: &[u8], stop: Stop, from: usize) -> usize
+    requires { from ≤ length text.now }
+    ensures found { result ≡ next (stops stop) text.now from (length text.now) }
+    ensures within { (from ≤ result) × (result ≤ length text.now) }
+{
+    match stop {
+        Stop::Feed => next_where(text, from, |b| b == b'\n'),
+        Stop::Gap => next_where(text, from, |b| is_blank(b) || b == b'\n'),
+        Stop::Word => next_where(text, from, |b| !is_blank(b)),
+    }
 }
 
 // The first line feed from there on, and the text's end where there is none.
@@ -41,7 +63,7 @@ fn next_feed(text: &[u8], from: usize) -> usize
     ensures found { result ≡ line_end text.now from }
     ensures within { (from ≤ result) × (result ≤ length text.now) }
 {
-    next_stop(text, from, |b| b == b'\n')
+    next_stop(text, Stop::Feed, from)
 }
 
 // The first field of the rest of a line, from there on; one of size 0 where there is none.
@@ -51,8 +73,8 @@ fn field_at(text: &[u8], from: usize) -> Span
     ensures found { result ≡ field text.now from (line_end text.now from) }
     ensures within { (from ≤ past result) × (past result ≤ length text.now) }
 {
-    let start = next_stop(text, from, |b| !is_blank(b));
-    let end = next_stop(text, start, |b| is_blank(b) || b == b'\n');
+    let start = next_stop(text, Stop::Word, from);
+    let end = next_stop(text, Stop::Gap, start);
     Span {
         start,
         size: end - start,

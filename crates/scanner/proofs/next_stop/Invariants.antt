@@ -1,11 +1,13 @@
--- `next_stop` meets its contract: no byte that was passed over passes the test. Assumes nothing.
-use Rattle.std.proofs.Common.{ℕ, ◌≡◌, ◌≤◌, ◌<◌, ◌-◌, length, false}
-use Rattle.model.specs.Places.{at}
+-- `next_stop` meets its contract: each closure tests what its stop says. Assumes nothing.
+use Rattle.std.proofs.Common.{not, ◌||◌}
+use Rattle.text.specs.Lines.{blank, feed}
 use Rattle.scanner.proofs.next_stop.Given as goal
 
-abbrev pub invariant-loop-i : goal.invariant-loop-i
-invariant-loop-i g l =
-    (l.from ≤ l.i) × (l.i ≤ length l.text) × ((k : ℕ) → l.from ≤ k → k < l.i → g.test (at l.text k) ≡ false)
+abbrev pub ghost-next_where : goal.ghost-next_where
+ghost-next_where a = feed
 
-abbrev pub decreases-loop-i : goal.decreases-loop-i
-decreases-loop-i g l = length l.text - l.i
+abbrev pub ghost-next_where-2 : goal.ghost-next_where-2
+ghost-next_where-2 a = λ b. blank b || feed b
+
+abbrev pub ghost-next_where-3 : goal.ghost-next_where-3
+ghost-next_where-3 a = λ b. not (blank b)

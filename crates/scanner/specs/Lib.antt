@@ -1,0 +1,2 @@
+-- In which terms the scan's contracts speak.
+pub mod Stops
