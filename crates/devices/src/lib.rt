@@ -19,7 +19,7 @@ use std::marker::Model;
 use text::{DeviceType, Line, Names, Span};
 
 // The cells for transistors: the most transistors, and one more, since a device is entered before it is counted.
-const WIRE_CELLS: usize = 8193;
+pub const WIRE_CELLS: usize = 8193;
 
 // The line of a text that offends, counted from 0.
 #[derive(Clone, Copy)]
@@ -219,6 +219,7 @@ impl<'t> Netlist<'t> {
     #[tactic(auto, using(crate::proofs::Midway::midway_start))]
     pub fn read_lines(&mut self, node_room: usize, transistor_room: usize) -> Result<(), BadLine>
         requires { (node_room ≤ 4096) × (transistor_room ≤ 8192) }
+        ensures same_text { self.new.text ≡ self.old.text }
         ensures read { told result self.new.list ≡ reading self.old.text node_room transistor_room }
         ensures roomy { IfOk result (λ _. (length self.new.list.names ≤ node_room) × (transistors self.new.list.net ≤ transistor_room)) }
         ensures small { IfErr result (λ bad. bad.line ≤ 65535) }

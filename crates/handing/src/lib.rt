@@ -1,14 +1,14 @@
-// What was read of a text is handed over to the lent tables: the network, the part that is a node's name, the names of all nodes.
+// What was read of a text is handed over to the lent tables: the network, the part that is a node's name, the names of all nodes. Each
+// function is told how the reading ended; a refusal hands over nothing.
 #![tactic(auto)]
 
-ghost use Rattle.std.specs.Prelude.{◌≤◌, ◌≡◌, length};
+ghost use Rattle.std.specs.Prelude.{◌≤◌, ◌≡◌, length, IfOk};
 ghost use Rattle.model.specs.Net.{net_of, transistors};
 ghost use Rattle.basis.specs.Sound.{Sized};
-ghost use Rattle.text.specs.Bytes.{span_at};
-ghost use Rattle.text.specs.Netlist.{taken};
-ghost use Rattle.text.specs.Reading.{counted, read_by, read_into, listed_by, list_into};
+ghost use Rattle.text.specs.Reading.{counted, read_by, read_into, name_in, listed_by, list_into};
+ghost use Rattle.devices.specs.Told.{told};
 
-use devices::Netlist;
+use devices::{BadLine, Netlist};
 use model::Answer;
 use text::Span;
 
@@ -26,7 +26,7 @@ fn done(list: &Netlist<'_>) -> Answer
     }
 }
 
-// What was read goes into the fronts of the lent tables.
+// What was read goes into the fronts of the lent tables; a refusal leaves them as they came.
 #[tactic(auto, unfolding(text::specs::Reading::read_into, text::specs::Reading::over))]
 pub fn hand_over(
     kinds: &mut [u8],
@@ -35,12 +35,16 @@ pub fn hand_over(
     sources: &mut [u16],
     drains: &mut [u16],
     list: &Netlist<'_>,
+    ended: Result<(), BadLine>,
 ) -> Answer
     requires sized { Sized (net_of kinds.old types.old gates.old sources.old drains.old) }
-    requires room { (length list.now.list.names ≤ length kinds.old) × (transistors list.now.list.net ≤ length types.old) }
+    requires room { IfOk ended (λ _. (length list.now.list.names ≤ length kinds.old) × (transistors list.now.list.net ≤ length types.old)) }
     ensures { let net = net_of kinds.old types.old gates.old sources.old drains.old in
-        read_by result (net_of kinds.new types.new gates.new sources.new drains.new) ≡ read_into (taken list.now.list) net }
+        read_by result (net_of kinds.new types.new gates.new sources.new drains.new) ≡ read_into (told ended list.now.list) net }
 {
+    if let Err(bad) = ended {
+        return Answer::Text(bad.line);
+    }
     let read = list.network();
     kinds[..read.kinds.len()].copy_from_slice(read.kinds);
     types[..read.types.len()].copy_from_slice(read.types);
@@ -50,10 +54,13 @@ pub fn hand_over(
     done(list)
 }
 
-// Where the name of a node first appears: the empty part for an unused number.
-pub fn span_in(list: &Netlist<'_>, number: usize) -> Span
-    ensures { result ≡ span_at list.now.list.names number }
+// Where the name of a node first appears: the empty part for an unused number, and for a refusal.
+pub fn span_in(list: &Netlist<'_>, ended: Result<(), BadLine>, number: usize) -> Span
+    ensures { result ≡ name_in (told ended list.now.list) number }
 {
+    if ended.is_err() {
+        return EMPTY_PART;
+    }
     let names = list.names();
     if names.count() <= number {
         return EMPTY_PART;
@@ -61,17 +68,25 @@ pub fn span_in(list: &Netlist<'_>, number: usize) -> Span
     names.span(number)
 }
 
-// The names go into the fronts of the lent tables, if these hold them all.
+// The names go into the fronts of the lent tables, if these hold them all; a refusal leaves them as they came.
 #[tactic(auto, unfolding(text::specs::Reading::list_into, text::specs::Reading::over))]
-pub fn list_over(starts: &mut [u16], sizes: &mut [u8], list: &Netlist<'_>) -> Answer
-    ensures { listed_by result starts.new sizes.new ≡ list_into (taken list.now.list) starts.old sizes.old }
+pub fn list_over(
+    starts: &mut [u16],
+    sizes: &mut [u8],
+    list: &Netlist<'_>,
+    ended: Result<(), BadLine>,
+) -> Answer
+    ensures { listed_by result starts.new sizes.new ≡ list_into (told ended list.now.list) starts.old sizes.old }
 {
     let names = list.names();
     let count = names.count();
-    if starts.len() < count || sizes.len() < count {
-        return Answer::Size;
+    match ended {
+        Err(bad) => Answer::Text(bad.line),
+        Ok(()) if starts.len() < count || sizes.len() < count => Answer::Size,
+        Ok(()) => {
+            starts[..count].copy_from_slice(names.starts());
+            sizes[..count].copy_from_slice(names.sizes());
+            done(list)
+        }
     }
-    starts[..count].copy_from_slice(names.starts());
-    sizes[..count].copy_from_slice(names.sizes());
-    done(list)
 }

@@ -1,4 +1,4 @@
--- What the proofs of names cite.
+-- What the proofs of names cite; what other crates may cite is public.
 mod Mixing
-mod Seen
-mod Chaining
+pub mod Seen
+pub mod Chaining

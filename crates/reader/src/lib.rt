@@ -30,10 +30,8 @@ fn read_sized(
         read_by result (net_of kinds.new types.new gates.new sources.new drains.new) ≡ read_into (reading text.now (length kinds.old) (length types.old)) net }
 {
     let mut list = Netlist::new(text);
-    match list.read_lines(kinds.len(), types.len()) {
-        Ok(()) => handing::hand_over(kinds, types, gates, sources, drains, &list),
-        Err(bad) => Answer::Text(bad.line),
-    }
+    let ended = list.read_lines(kinds.len(), types.len());
+    handing::hand_over(kinds, types, gates, sources, drains, &list, ended)
 }
 
 // Reads a text into lent tables, whose lengths are the room for its nodes and transistors. A refusal leaves them as they came. The tables are
@@ -72,10 +70,8 @@ pub fn node_span(text: &[u8], number: usize) -> Span
         return EMPTY_PART;
     }
     let mut list = Netlist::new(text);
-    match list.read_lines(MOST_NODES, MOST_TRANSISTORS) {
-        Ok(()) => handing::span_in(&list, number),
-        Err(_) => EMPTY_PART,
-    }
+    let ended = list.read_lines(MOST_NODES, MOST_TRANSISTORS);
+    handing::span_in(&list, ended, number)
 }
 
 // The name of a node, as the part of the text where it first appears.
@@ -94,8 +90,6 @@ pub fn node_names(text: &[u8], starts: &mut [u16], sizes: &mut [u8]) -> Answer
         return Answer::Size;
     }
     let mut list = Netlist::new(text);
-    match list.read_lines(MOST_NODES, MOST_TRANSISTORS) {
-        Ok(()) => handing::list_over(starts, sizes, &list),
-        Err(bad) => Answer::Text(bad.line),
-    }
+    let ended = list.read_lines(MOST_NODES, MOST_TRANSISTORS);
+    handing::list_over(starts, sizes, &list, ended)
 }
