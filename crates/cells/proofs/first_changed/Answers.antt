@@ -15,6 +15,6 @@ place_is c =
     let found = position_from_yields_List differs c.position-first.new.self _ c.position-first.result c.position-first.ensures.ran pairs (λ x b q k. search (rules, tests)) in
     ap (λ r. unwrap_or r (length s)) found ∙ first_of_pairs s c.args.work.now c.requires.0
 
--- What becomes of it is left to the search: other words for the same answer prove, and another answer does not.
+-- What `unwrap_or` is of is left to the search: the same place in other words proves, another place does not.
 pub returns : goal.returns
 returns c = rw (sym (place_is c)) (search rules)
